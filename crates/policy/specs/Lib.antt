@@ -1,0 +1,4 @@
+pub mod Order
+pub mod Hold
+pub mod Built
+pub mod Chosen
