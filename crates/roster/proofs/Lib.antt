@@ -1,0 +1,4 @@
+pub mod Multiples
+pub mod Lawful
+pub mod Adding
+pub mod Standing

@@ -1,0 +1,3 @@
+pub mod Multiple
+pub mod Feeds
+pub mod Roster

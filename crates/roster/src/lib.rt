@@ -1,0 +1,8 @@
+// Rosters: a lane count and feeds, each addition checked, and the margin of a roster under an order and a hold rule.
+mod feed;
+mod multiple;
+mod table;
+mod weights;
+
+pub use feed::Feed;
+pub use table::Roster;
