@@ -7,6 +7,7 @@ use crate::feed::Feed;
 
 mod adding;
 mod asking;
+mod margin;
 
 /// A lane count and up to 32 feeds, numbered from 1 in the order of adding. No roster that exists breaks a rule below.
 #[derive(Clone, Copy)]

@@ -1,0 +1,61 @@
+-- The margin of a roster under an order and a hold rule.
+use mathlib.Core.Bool.{Bool, _&&_, not, cond}
+use mathlib.Core.List.{List, map}
+use Prim.Native.Nat.{ℕ, zero, suc, _+_, _-_, _*_, _≤_, _<_}
+use lib.Dec.{leb, eqb}
+use lib.ListN.{length, getD, take}
+use Rattle.std.specs.shelf.Lists.{sum}
+use Rattle.sorted.specs.Order.{sort}
+use Rattle.policy.specs.Order.{Order}
+use Rattle.policy.specs.Hold.{Hold}
+use Rattle.roster.specs.declared.feed.Feed.{Feed}
+use Rattle.roster.specs.Feeds.{hyperperiod-of, weight}
+
+-- Larger numbers stand before smaller ones.
+abbrev pub downward : ℕ → ℕ → Bool
+downward a b = leb b a
+
+-- The sum of the y largest numbers of a list, of all where it has fewer: the first y of the list sorted downward.
+abbrev pub largest : ℕ → List ℕ → ℕ
+largest y xs = sum (take y (sort downward xs))
+
+-- The costs of the cards that can be in progress at once: the m - 1 largest costs, or the m largest where cards are held.
+abbrev pub in-progress : ℕ → Bool → List Feed → ℕ
+in-progress lanes ever fs = largest (cond ever lanes (lanes - 1)) (map (λ f. f .cost) fs)
+
+-- The m - 1 largest weights.
+abbrev pub heaviest : ℕ → List Feed → ℕ
+heaviest lanes fs = largest (lanes - 1) (map (weight (hyperperiod-of fs)) fs)
+
+-- The sum of f 0, f 1 and so on, n of them.
+abbrev pub sum-to : ℕ → (ℕ → ℕ) → ℕ
+sum-to zero f = 0
+sum-to (suc n) f = sum-to n f + f n
+
+-- The feed at a place, from 0 on; its number is one more.
+abbrev pub at : List Feed → ℕ → Feed
+at fs k = getD fs k record { cost = 0; spacing = 0 }
+
+-- The cost of the feed at j if it is another feed than the one at k and overtakes it, else 0.
+abbrev pub overtaking-cost : Order → List Feed → ℕ → ℕ → ℕ
+overtaking-cost order fs k j =
+    cond (not (eqb j k) && order .overtakes (j + 1) (at fs j .spacing) (k + 1) (at fs k .spacing)) (at fs j .cost) 0
+
+-- The costs of the other feeds that overtake the one at k.
+abbrev pub overtaking : Order → List Feed → ℕ → ℕ
+overtaking order fs k = sum-to (length fs) (overtaking-cost order fs k)
+
+-- x is enough for the feed at k.
+abbrev pub Enough : ℕ → List Feed → Order → Hold → ℕ → ℕ → Type 0
+Enough lanes fs order hold x k =
+    let l = hyperperiod-of fs in
+    l * (in-progress lanes (hold .ever) fs + overtaking order fs k) ≤ x * (lanes * l - heaviest lanes fs) + l * at fs k .cost
+
+-- x is enough for every feed.
+abbrev pub Meets : ℕ → List Feed → Order → Hold → ℕ → Type 0
+Meets lanes fs order hold x = (k : ℕ) → k < length fs → Enough lanes fs order hold x k
+
+-- The margin is the least number that is enough for every feed; 0 without feeds.
+pub record Margin (lanes : ℕ) (fs : List Feed) (order : Order) (hold : Hold) (x : ℕ) : Type 0 where
+  pub meets : Meets lanes fs order hold x
+  pub least : (y : ℕ) → Meets lanes fs order hold y → x ≤ y

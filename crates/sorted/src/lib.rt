@@ -1,0 +1,3 @@
+mod ranked;
+
+pub use ranked::Ranked;
