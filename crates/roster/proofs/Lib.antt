@@ -4,3 +4,4 @@ pub mod Adding
 pub mod Standing
 pub mod Rounding
 pub mod Shares
+pub mod Least

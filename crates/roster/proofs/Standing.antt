@@ -13,10 +13,14 @@ use Rattle.roster.specs.declared.table.Roster.{Roster}
 use Rattle.roster.specs.Feeds.{lawful}
 use Rattle.roster.specs.Margin.{at, overtaking-cost}
 use Rattle.roster.specs.Roster.{feeds}
+use Rattle.roster.proofs.Adding.{hyperperiod-positive}
 use Rattle.roster.proofs.Lawful.{Rules, rules-from-lawful, each-lawful}
 
 pub feeds-count : (s : Roster) → length (feeds s) ≡ s .count
 feeds-count s = length-take-le (s .count) (s .places) (omega arith)
+
+pub hyperperiod-some : (s : Roster) → 0 < s .hyperperiod
+hyperperiod-some s = omega (arith, hyperperiod-positive (feeds s) (s .lawful), s .common)
 
 pub feed-at : (s : Roster) (k : ℕ) → k < s .count → at (feeds s) k ≡ at (s .places) k
 feed-at s k h = getD-take (s .count) (s .places) k _ h

@@ -45,17 +45,18 @@ overtaking-cost order fs k j =
 abbrev pub overtaking : Order → List Feed → ℕ → ℕ
 overtaking order fs k = sum-to (length fs) (overtaking-cost order fs k)
 
--- x is enough for the feed at k.
-abbrev pub Enough : ℕ → List Feed → Order → Hold → ℕ → ℕ → Type 0
-Enough lanes fs order hold x k =
+-- x is enough for the feed at k, where so much cost can be in progress and the lanes clear at that rate.
+abbrev pub Enough : (hyperperiod progress rate : ℕ) → Order → List Feed → ℕ → ℕ → Type 0
+Enough hyperperiod progress rate order fs x k = hyperperiod * (progress + overtaking order fs k) ≤ x * rate + hyperperiod * at fs k .cost
+
+-- x is the least number that is enough for each of the first n feeds.
+pub record Least (hyperperiod progress rate : ℕ) (order : Order) (fs : List Feed) (n x : ℕ) : Type 0 where
+  pub enough : (k : ℕ) → k < n → Enough hyperperiod progress rate order fs x k
+  pub least : (y : ℕ) → ((k : ℕ) → k < n → Enough hyperperiod progress rate order fs y k) → x ≤ y
+
+-- The margin is the least number x such that for every feed
+-- x × (lanes × hyperperiod − heaviest) + hyperperiod × cost ≥ hyperperiod × (in progress + overtaking); 0 without feeds.
+abbrev pub Margin : ℕ → List Feed → Order → Hold → ℕ → Type 0
+Margin lanes fs order hold x =
     let l = hyperperiod-of fs in
-    l * (in-progress lanes (hold .ever) fs + overtaking order fs k) ≤ x * (lanes * l - heaviest lanes fs) + l * at fs k .cost
-
--- x is enough for every feed.
-abbrev pub Meets : ℕ → List Feed → Order → Hold → ℕ → Type 0
-Meets lanes fs order hold x = (k : ℕ) → k < length fs → Enough lanes fs order hold x k
-
--- The margin is the least number that is enough for every feed; 0 without feeds.
-pub record Margin (lanes : ℕ) (fs : List Feed) (order : Order) (hold : Hold) (x : ℕ) : Type 0 where
-  pub meets : Meets lanes fs order hold x
-  pub least : (y : ℕ) → Meets lanes fs order hold y → x ≤ y
+    Least l (in-progress lanes (hold .ever) fs) (lanes * l - heaviest lanes fs) order fs (length fs) x

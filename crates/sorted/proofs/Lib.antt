@@ -1,1 +1,2 @@
 pub mod Insert
+pub mod Shift
