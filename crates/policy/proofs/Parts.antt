@@ -22,7 +22,7 @@ share-slow s t a b pos le longer =
     let d = t - s in
     let split : t * a ≡ (s + d) * a = ap (λ n. n * a) (omega arith) in
     let grown : t * a < (s * a / b + d + 1) * b =
-        omega (arith, split, add-mul s d a, add-mul (s * a / b + d) 1 b, add-mul (s * a / b) d b, mul-le-mul-left d le, lt-div-mul-add {a = s * a} pos) in
+    omega (arith, split, add-mul s d a, add-mul (s * a / b + d) 1 b, add-mul (s * a / b) d b, mul-le-mul-left d le, lt-div-mul-add {a = s * a} pos) in
     let below : t * a / b < s * a / b + d + 1 = div-lt-iff-lt-mul pos .1 grown in
     omega arith
 

@@ -16,7 +16,7 @@ use Rattle.refusal.specs.declared.reason.Refusal.the-variants.{Hyperperiod, Ove
 use Rattle.roster.specs.declared.feed.Feed.{Feed}
 use Rattle.roster.specs.Multiple.{lcm, AllPositive}
 use Rattle.roster.specs.Feeds.{lawful, all-lawful, hyperperiod-of, weight, weights, add-refusal}
-use Rattle.roster.proofs.Lawful.{Rules, rules-from-lawful, each-lawful}
+use Rattle.roster.proofs.Lawful.{Rules, rules-from-lawful, each-passes}
 use Rattle.roster.proofs.Multiples.{lcm-push, lcm-all-positive}
 
 abbrev none : Feed
@@ -26,7 +26,7 @@ pub spacings-positive : (fs : List Feed) → all-lawful fs ≡ true → AllPosit
 spacings-positive fs h i within =
     let inside : i < length fs = omega (arith, length-map fs (λ (f : Feed). f .spacing)) in
     let here = getD-map (λ (f : Feed). f .spacing) fs i none 0 inside in
-    let rules = rules-from-lawful (getD fs i none) (all-getD (λ f. lawful f ≡ true) fs i none inside (each-lawful fs h)) in
+    let rules = rules-from-lawful (getD fs i none) (all-getD (λ f. lawful f ≡ true) fs i none inside (each-passes lawful fs h)) in
     omega (arith, here, rules .spaced)
 
 pub hyperperiod-positive : (fs : List Feed) → all-lawful fs ≡ true → 0 < hyperperiod-of fs

@@ -26,9 +26,9 @@ module _ (l progress rate : ℕ) (order : Order) (fs : List Feed) where
       record {
         enough = below-more _ n (λ k h. omega (arith, before .enough k h, mul-le-mul-right rate xz)) (omega (arith, enough z dz));
         least = λ y all. ⊎-elim
-          (λ zx. omega (arith, before .least y (λ k h. all k (omega arith))))
-          (λ zd. omega (arith, least y (omega (arith, all n (omega arith)))))
-          which;
+            (λ zx. omega (arith, before .least y (λ k h. all k (omega arith))))
+            (λ zd. omega (arith, least y (omega (arith, all n (omega arith)))))
+            which;
       }
 
 -- the same numbers under other names

@@ -5,3 +5,5 @@ pub mod Standing
 pub mod Rounding
 pub mod Shares
 pub mod Least
+pub mod Largest
+pub mod Measures

@@ -14,7 +14,7 @@ use Rattle.roster.specs.Feeds.{lawful}
 use Rattle.roster.specs.Margin.{at, overtaking-cost}
 use Rattle.roster.specs.Roster.{feeds}
 use Rattle.roster.proofs.Adding.{hyperperiod-positive}
-use Rattle.roster.proofs.Lawful.{Rules, rules-from-lawful, each-lawful}
+use Rattle.roster.proofs.Lawful.{Rules, rules-from-lawful, each-passes}
 
 pub feeds-count : (s : Roster) → length (feeds s) ≡ s .count
 feeds-count s = length-take-le (s .count) (s .places) (omega arith)
@@ -28,7 +28,7 @@ feed-at s k h = getD-take (s .count) (s .places) k _ h
 pub rules-at : (s : Roster) (k : ℕ) → k < s .count → Rules (at (s .places) k)
 rules-at s k h =
     let inside : k < length (feeds s) = omega (arith, feeds-count s) in
-    rw (sym (feed-at s k h)) (rules-from-lawful (at (feeds s) k) (all-getD (λ f. lawful f ≡ true) (feeds s) k _ inside (each-lawful (feeds s) (s .lawful))))
+    rw (sym (feed-at s k h)) (rules-from-lawful (at (feeds s) k) (all-getD (λ f. lawful f ≡ true) (feeds s) k _ inside (each-passes lawful (feeds s) (s .lawful))))
 
 -- an order can be asked about any two feeds of a roster
 asked : (s : Roster) (k j : ℕ) → k < s .count → j < s .count → j ≢ k → AskedPair (j + 1) (at (s .places) j .spacing) (k + 1) (at (s .places) k .spacing)

@@ -1,15 +1,16 @@
 -- The rules of a roster's feeds: which feeds are lawful, their hyperperiod, their weights, and when one more is refused.
-use mathlib.Core.Bool.{Bool, true, _&&_, cond}
+use mathlib.Core.Bool.{Bool, _&&_, cond}
 use mathlib.Core.List.{List, [], _∷_, _++_, map}
 use Prim.Native.Nat.{ℕ, _+_, _*_, _/_}
 use lib.Dec.{leb, ltb}
 use lib.ListN.{length}
+use Rattle.std.specs.shelf.Lawful.{all-pass}
 use Rattle.std.specs.shelf.Lists.{sumBy}
 use Rattle.std.specs.declared.option.Option.{Option}
 use Rattle.std.specs.declared.option.Option.the-variants.{Some, None}
 use Rattle.refusal.specs.Told.{Told, told}
 use Rattle.refusal.specs.declared.reason.Refusal.{Refusal}
-use Rattle.refusal.specs.declared.reason.Refusal.the-variants.{Lanes, Full, Hyperperiod, Overload} 
+use Rattle.refusal.specs.declared.reason.Refusal.the-variants.{Lanes, Full, Hyperperiod, Overload}
 use Rattle.roster.specs.declared.feed.Feed.{Feed}
 use Rattle.roster.specs.Multiple.{lcm-all}
 
@@ -18,8 +19,7 @@ abbrev pub lawful : Feed → Bool
 lawful f = (leb 1 (f .spacing) && leb (f .spacing) 60000) && (leb 1 (f .cost) && leb (f .cost) (f .spacing))
 
 abbrev pub all-lawful : List Feed → Bool
-all-lawful [] = true
-all-lawful (f ∷ fs) = lawful f && all-lawful fs
+all-lawful fs = all-pass lawful fs
 
 -- The hyperperiod is the least common multiple of the spacings, 1 without feeds.
 abbrev pub hyperperiod-of : List Feed → ℕ
@@ -42,7 +42,7 @@ add-refusal lanes fs f =
     let all = fs ++ f ∷ [] in
     cond (leb 32 (length fs)) (Some (told Full)) (
     cond (lawful f)
-        (cond (leb (hyperperiod-of all) 10000000)
-            (cond (leb (weights (hyperperiod-of all) all) (lanes * hyperperiod-of all)) None (Some (told Overload)))
-            (Some (told Hyperperiod)))
-        (Some (told Refusal.Feed)))
+    (cond (leb (hyperperiod-of all) 10000000)
+    (cond (leb (weights (hyperperiod-of all) all) (lanes * hyperperiod-of all)) None (Some (told Overload)))
+    (Some (told Hyperperiod)))
+    (Some (told Refusal.Feed)))

@@ -6,11 +6,13 @@ ghost use Rattle.roster.specs.Feeds.{lawful};
 use crate::feed::Feed;
 
 mod cost;
+mod largest;
 mod share;
 
 pub use cost::ByCost;
 pub use cost::ByCostMeasure;
 pub use cost::ByCostRanked;
+pub use largest::sum_of_largest;
 pub use share::ByShare;
 pub use share::ByShareMeasure;
 pub use share::ByShareRanked;

@@ -31,8 +31,16 @@ impl Roster {
         if lanes < 1 || lanes > 8 {
             return Err(Refusal::Lanes);
         }
-        let nothing = Feed { cost: 0, spacing: 0 };
-        Ok(Roster { lanes, places: [nothing; 32], count: 0, hyperperiod: 1 })
+        let nothing = Feed {
+            cost: 0,
+            spacing: 0,
+        };
+        Ok(Roster {
+            lanes,
+            places: [nothing; 32],
+            count: 0,
+            hyperperiod: 1,
+        })
     }
 
     // The hyperperiod with one feed more, or why that feed is refused.
@@ -50,7 +58,8 @@ impl Roster {
         if hyperperiod > 10_000_000 {
             return Err(Refusal::Hyperperiod);
         }
-        let weights = total_weight(&self.places[0..self.count], hyperperiod) + weight_of(feed, hyperperiod);
+        let weights = total_weight(&self.places[0..self.count], hyperperiod)
+            + weight_of(feed, hyperperiod);
         if weights > u64::from(self.lanes) * hyperperiod {
             return Err(Refusal::Overload);
         }

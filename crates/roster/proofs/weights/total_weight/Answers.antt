@@ -6,12 +6,12 @@ use Rattle.std.proofs.shelf.Elements.{all-getD}
 use Rattle.std.proofs.shelf.Lists.{take-all}
 use Rattle.std.proofs.shelf.Sums.{sumBy-more}
 use Rattle.roster.specs.Feeds.{lawful, weight, weights}
-use Rattle.roster.proofs.Lawful.{each-lawful}
+use Rattle.roster.proofs.Lawful.{each-passes}
 use Rattle.roster.proofs.weights.total_weight.Needs as need
 
 pub weight-of-total-requires : need.weight-of-total-requires
 weight-of-total-requires c κs =
-    (all-getD (λ f. lawful f ≡ true) (c .args .feeds .now) (c .loop-feed .feed-index) _ (c .loop-feed-test .taken) (each-lawful _ (c .pre .0)), c .pre .1 .1)
+    (all-getD (λ f. lawful f ≡ true) (c .args .feeds .now) (c .loop-feed .feed-index) _ (c .loop-feed-test .taken) (each-passes lawful _ (c .pre .0)), c .pre .1 .1)
 
 pub loop-feed-again : need.loop-feed-again
 loop-feed-again c =
