@@ -5,6 +5,7 @@ use mathlib.Core.Path.{_≡_}
 use Prim.Native.Nat.{ℕ, _+_}
 use lib.ListN.{length}
 use Rattle.std.specs.Vec.{made}
+use Rattle.std.specs.shelf.Lists.{All}
 use Rattle.std.specs.declared.option.Option.{Option}
 use Rattle.std.specs.declared.option.Option.the-variants.{Some, None}
 use Rattle.std.specs.declared.result.Result.{Result}
@@ -17,6 +18,7 @@ use Rattle.policy.specs.Built.{first-come, by-due, part, part-lawful, never, al
 use Rattle.roster.specs.declared.feed.Feed.{Feed}
 use Rattle.roster.specs.Feeds.{lanes-refusal, add-refusal, hyperperiod-of}
 use Rattle.roster.specs.Margin.{Margin as IsMargin}
+use Rattle.cases.specs.declared.plan.Case.{Case}
 use Rattle.cases.specs.declared.plan.Plan.{Plan}
 use Rattle.cases.specs.declared.plan.OrderPlan.{OrderPlan}
 use Rattle.cases.specs.declared.plan.OrderPlan.the-variants.{FirstCome, ByDue, Part}
@@ -88,3 +90,7 @@ Right q r = (refusal r ≡ question-refusal q) × made r (Value q)
 -- An answer is right, and no other is.
 abbrev pub OnlyRight : Question → Result ℕ Refusal → Type 0
 OnlyRight q r = Right q r × ((s : Result ℕ Refusal) → Right q s → s ≡ r)
+
+-- Every case of a table has its one right answer.
+pub record RightTable (cases : List Case) : Type 0 where
+  pub each : All (λ c. OnlyRight (c .question) (c .answer)) cases

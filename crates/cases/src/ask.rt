@@ -83,6 +83,10 @@ pub fn ask(question: Question) -> Result<u64, Refusal>
             let mut roster = build(plan)?;
             Ok(u64::from(roster.add(feed)?))
         }
-        Question::Point(order, spacing, release) => Ok(choose_order(order)?.point(1, spacing, release)),
+        Question::Point(order, spacing, release) => Ok(choose_order(order)?.point(
+            1,
+            spacing,
+            release,
+        )),
     }
 }

@@ -47,14 +47,23 @@ pub impl fmt::Display for Question as QuestionDisplay {
     fn fmt<W: fmt::Write>(&self, f: &mut fmt::Formatter<W>) -> fmt::Result {
         match self {
             Question::Hyperperiod(plan) => write!(f, "hyperperiod of {plan}"),
-            Question::Margin(plan, order, hold) => write!(f, "margin of {plan}, under {order} and {hold}"),
+            Question::Margin(plan, order, hold) => write!(
+                f,
+                "margin of {plan}, under {order} and {hold}"
+            ),
             Question::Add(plan, feed) => {
                 let cost = feed.cost;
                 let spacing = feed.spacing;
-                write!(f, "number of a feed with cost {cost} every {spacing}, added to {plan}")
+                write!(
+                    f,
+                    "number of a feed with cost {cost} every {spacing}, added to {plan}"
+                )
             }
             Question::Point(order, spacing, release) => {
-                write!(f, "point under {order} of a card released at {release}, with spacing {spacing}")
+                write!(
+                    f,
+                    "point under {order} of a card released at {release}, with spacing {spacing}"
+                )
             }
         }
     }

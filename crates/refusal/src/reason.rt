@@ -1,5 +1,6 @@
 ghost use mathlib.Core.Path.{_≡_};
 ghost use Rattle.refusal.specs.Told.{told};
+ghost use Rattle.refusal.specs.declared.reason.Refusal.{Refusal as Reason};
 
 /// A reason to refuse. Each case has a fixed number and a layer, the same wherever it is given.
 #[derive(Clone, Copy, PartialEq, Eq, Debug)]
@@ -19,9 +20,10 @@ pub enum Refusal {
 }
 
 impl Refusal {
-    /// The number by which this refusal is known: 11 to 16.
+    /// The number by which this refusal is known, 11 to 16. No other refusal has it.
     pub fn number(&self) -> u8
-        ensures { λ r. ⌜ r ≡ told (now (self .entry)) .number ⌝ }
+        ensures value { λ r. ⌜ r ≡ told (now (self .entry)) .number ⌝ }
+        ensures only { λ r. ⌜ ((other : Reason) → told other .number ≡ r → other ≡ now (self .entry)) ⌝ }
     {
         match self {
             Refusal::Lanes => 11,

@@ -37,16 +37,16 @@ loop-slot-again c =
     let after = λ (bs : _). Adding (had .lanes) (feeds had) (present slots) bs (present (drop (i + 1) slots)) in
     let at = present-at slots i (c .loop-slot-test .taken) in
     elim (c .match-slot .came) [
-      in-Some·in-Continue-add w ↦
-        let f = w .in-Some .feed in
-        let added = w .in-Continue-add .ensures tt in
-        let left = subst (Adding (had .lanes) (feeds had) (present slots) (feeds built)) (at (Some f) (w .in-Some .is)) (c .loop-slot .inv .1) in
-        let passed = added .answer ∙ ap (λ n. add-refusal n (feeds built) f) (c .loop-slot .inv .0) in
-        let more = adding-more (had .lanes) (feeds had) (present slots) (feeds built) _ f passed left in
-        (ap (λ t. t .lanes) (w .built-is) ∙ added .same-lanes ∙ c .loop-slot .inv .0, subst after (sym (ap feeds (w .built-is) ∙ added .added refl)) more)
-    | in-rest w ↦
-        let left = subst (Adding (had .lanes) (feeds had) (present slots) (feeds built)) (at None (w .in-rest .is)) (c .loop-slot .inv .1) in
-        (ap (λ t. t .lanes) (w .built-is) ∙ c .loop-slot .inv .0, subst after (sym (ap feeds (w .built-is))) left)
+      | in-Some·in-Continue-add w ↦
+          let f = w .in-Some .feed in
+          let added = w .in-Continue-add .ensures tt in
+          let left = subst (Adding (had .lanes) (feeds had) (present slots) (feeds built)) (at (Some f) (w .in-Some .is)) (c .loop-slot .inv .1) in
+          let passed = added .answer ∙ ap (λ n. add-refusal n (feeds built) f) (c .loop-slot .inv .0) in
+          let more = adding-more (had .lanes) (feeds had) (present slots) (feeds built) _ f passed left in
+          (ap (λ t. t .lanes) (w .built-is) ∙ added .same-lanes ∙ c .loop-slot .inv .0, subst after (sym (ap feeds (w .built-is) ∙ added .added refl)) more)
+      | in-rest w ↦
+          let left = subst (Adding (had .lanes) (feeds had) (present slots) (feeds built)) (at None (w .in-rest .is)) (c .loop-slot .inv .1) in
+          (ap (λ t. t .lanes) (w .built-is) ∙ c .loop-slot .inv .0, subst after (sym (ap feeds (w .built-is))) left)
     ]
 
 pub returns : need.returns
