@@ -2,10 +2,10 @@
 use Rattle.policy.specs.Order.{Order}
 use Rattle.policy.specs.Hold.{Hold}
 use Rattle.policy.specs.Built.{first-come, by-due, part, never, always, blocks}
-use Rattle.policy.specs.declared.order.AnyOrder.{AnyOrder}
-use Rattle.policy.specs.declared.order.AnyOrder.the-variants.{FirstCome, ByDue, Part}
-use Rattle.policy.specs.declared.hold.AnyHold.{AnyHold}
-use Rattle.policy.specs.declared.hold.AnyHold.the-variants.{Never, Always, Blocks}
+use Rattle.policy.specs.declared.order.any.AnyOrder.{AnyOrder}
+use Rattle.policy.specs.declared.order.any.AnyOrder.the-variants.{FirstCome, ByDue, Part}
+use Rattle.policy.specs.declared.hold.any.AnyHold.{AnyHold}
+use Rattle.policy.specs.declared.hold.any.AnyHold.the-variants.{Never, Always, Blocks}
 
 abbrev pub chosen-order : AnyOrder → Order
 chosen-order FirstCome = first-come

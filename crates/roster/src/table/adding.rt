@@ -15,6 +15,12 @@ use crate::weights::total_weight;
 use crate::weights::weight_of;
 use refusal::Refusal;
 
+// The most feeds that a roster can have.
+const MOST_FEEDS: usize = 32;
+
+// The longest hyperperiod.
+const LONGEST: u64 = 10_000_000;
+
 // Whether a roster can have this feed: spacing 1 to 60,000, cost 1 to the spacing.
 fn is_lawful(feed: Feed) -> bool
     ensures { λ r. ⌜ r ≡ lawful feed ⌝ }
@@ -48,14 +54,14 @@ impl Roster {
         ensures answer { λ r. ⌜ refusal r ≡ add-refusal (now (self .entry) .lanes) (feeds (now (self .entry))) feed ⌝ }
         ensures made { λ r. ⌜ made r (λ l. l ≡ hyperperiod-of (feeds (now (self .entry)) ++ feed ∷ [])) ⌝ }
     {
-        if self.count >= 32 {
+        if self.count >= MOST_FEEDS {
             return Err(Refusal::Full);
         }
         if !is_lawful(feed) {
             return Err(Refusal::Feed);
         }
         let hyperperiod = common_multiple(self.hyperperiod, u64::from(feed.spacing));
-        if hyperperiod > 10_000_000 {
+        if hyperperiod > LONGEST {
             return Err(Refusal::Hyperperiod);
         }
         let weights = total_weight(&self.places[0..self.count], hyperperiod)

@@ -28,13 +28,13 @@ common-multiple-hyperperiod-requires c κs =
     let rules = rules-from-lawful (c .args .feed) (sym (c .if-not-is-lawful .ensures tt)) in
     (omega (arith, hyperperiod-positive (feeds s) (s .lawful), s .common), (s .short, (omega arith, omega arith)))
 
-pub returns-then-hyperperiod-gt10000000 : need.returns-then-hyperperiod-gt10000000
-returns-then-hyperperiod-gt10000000 c =
+pub returns-then-hyperperiod-gt-LONGEST : need.returns-then-hyperperiod-gt-LONGEST
+returns-then-hyperperiod-gt-LONGEST c =
     let s = c .args .self .now in
     let f = c .args .feed in
     let l = hyperperiod-is s f _ _ (c .common-multiple-hyperperiod .ensures) (c .from .ensures) in
-    let long : 10000000 < hyperperiod-of (feeds s ++ f ∷ []) = rw (sym l) (c .if-hyperperiod-gt10000000 .taken) in
-    record { answer = refused-long (s .lanes) (feeds s) f (room s (c .if-self-ge32 .left)) (sym (c .if-not-is-lawful .ensures tt)) long; made = tt }
+    let long : 10000000 < hyperperiod-of (feeds s ++ f ∷ []) = rw (sym l) (c .if-hyperperiod-gt-LONGEST .taken) in
+    record { answer = refused-long (s .lanes) (feeds s) f (room s (c .if-self-ge-MOST-FEEDS .left)) (sym (c .if-not-is-lawful .ensures tt)) long; made = tt }
 
 pub returns-then-weights-from : need.returns-then-weights-from
 returns-then-weights-from c =
@@ -42,7 +42,7 @@ returns-then-weights-from c =
     let l = hyperperiod-is s (c .args .feed) _ _ (c .common-multiple-hyperperiod .ensures) (c .from .ensures) in
     let total : c .total-weight .result ≡ weights (c .common-multiple-hyperperiod .result) (feeds s) = search needs in
     let heavy = lt-leb _ (s .lanes * c .common-multiple-hyperperiod .result) (rw (sym (c .from-2 .ensures)) (c .if-weights-from .taken)) in
-    record { answer = sym (weighed (s .lanes) (feeds s) (c .args .feed) _ _ _ _ (room s (c .if-self-ge32 .left)) (sym (c .if-not-is-lawful .ensures tt)) l (c .if-hyperperiod-gt10000000 .left) total (c .weight-of .ensures .0) heavy); made = tt }
+    record { answer = sym (weighed (s .lanes) (feeds s) (c .args .feed) _ _ _ _ (room s (c .if-self-ge-MOST-FEEDS .left)) (sym (c .if-not-is-lawful .ensures tt)) l (c .if-hyperperiod-gt-LONGEST .left) total (c .weight-of .ensures .0) heavy); made = tt }
 
 pub returns : need.returns
 returns c =
@@ -50,4 +50,4 @@ returns c =
     let l = hyperperiod-is s (c .args .feed) _ _ (c .common-multiple-hyperperiod .ensures) (c .from .ensures) in
     let total : c .total-weight .result ≡ weights (c .common-multiple-hyperperiod .result) (feeds s) = search needs in
     let light = le-leb _ (s .lanes * c .common-multiple-hyperperiod .result) (rw (sym (c .from-2 .ensures)) (c .if-weights-from .left)) in
-    record { answer = sym (weighed (s .lanes) (feeds s) (c .args .feed) _ _ _ _ (room s (c .if-self-ge32 .left)) (sym (c .if-not-is-lawful .ensures tt)) l (c .if-hyperperiod-gt10000000 .left) total (c .weight-of .ensures .0) light); made = l }
+    record { answer = sym (weighed (s .lanes) (feeds s) (c .args .feed) _ _ _ _ (room s (c .if-self-ge-MOST-FEEDS .left)) (sym (c .if-not-is-lawful .ensures tt)) l (c .if-hyperperiod-gt-LONGEST .left) total (c .weight-of .ensures .0) light); made = l }

@@ -1,5 +1,5 @@
 use Rattle.policy.proofs.Parts.{part-within, part-overtaking}
-use Rattle.policy.proofs.part.PartOrders.the-impl.Needs as need
+use Rattle.policy.proofs.order.part.PartOrders.the-impl.Needs as need
 
 pub within-law : need.within-law
 within-law p = part-within (p .a) (p .b) (p .lawful)

@@ -1,7 +1,7 @@
 use borrow.Author.Needs.{needs}
-use Rattle.policy.specs.declared.order.AnyOrder.the-variants.{FirstCome, ByDue, Part}
+use Rattle.policy.specs.declared.order.any.AnyOrder.the-variants.{FirstCome, ByDue, Part}
 use Rattle.policy.proofs.Parts.{part-within, part-overtaking}
-use Rattle.policy.proofs.order.AnyOrderOrders.the-impl.Needs as need
+use Rattle.policy.proofs.order.any.AnyOrderOrders.the-impl.Needs as need
 
 pub within-law : need.within-law
 within-law FirstCome = search needs
