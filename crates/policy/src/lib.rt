@@ -1,6 +1,8 @@
 // Which card comes first, and which card keeps its lane: queue orders and hold rules, as two interfaces and the built ones.
 mod hold;
 mod order;
+#[cfg(test)]
+mod tests;
 
 pub use hold::Always;
 pub use hold::AlwaysHolds;

@@ -3,6 +3,8 @@ mod feed;
 mod measure;
 mod multiple;
 mod table;
+#[cfg(test)]
+mod tests;
 mod weights;
 
 pub use feed::Feed;
