@@ -2,22 +2,13 @@
 use mathlib.Core.Bool.{Bool, _&&_, not, cond}
 use mathlib.Core.List.{List, map}
 use Prim.Native.Nat.{ℕ, zero, suc, _+_, _-_, _*_, _≤_, _<_}
-use lib.Dec.{leb, eqb}
-use lib.ListN.{length, getD, take}
-use Rattle.std.specs.shelf.Lists.{sum}
-use Rattle.sorted.specs.Order.{sort}
+use lib.Dec.{eqb}
+use lib.ListN.{length, getD}
+use Rattle.sorted.specs.Largest.{largest}
 use Rattle.policy.specs.Order.{Order}
 use Rattle.policy.specs.Hold.{Hold}
 use Rattle.roster.specs.declared.feed.Feed.{Feed}
 use Rattle.roster.specs.Feeds.{hyperperiod-of, weight}
-
--- Larger numbers stand before smaller ones.
-abbrev pub downward : ℕ → ℕ → Bool
-downward a b = leb b a
-
--- The sum of the y largest numbers of a list, of all where it has fewer: the first y of the list sorted downward.
-abbrev pub largest : ℕ → List ℕ → ℕ
-largest y xs = sum (take y (sort downward xs))
 
 -- The costs of the cards that can be in progress at once: the m - 1 largest costs, or the m largest where cards are held.
 abbrev pub in-progress : ℕ → Bool → List Feed → ℕ

@@ -1,0 +1,9 @@
+pub mod Sums
+pub mod Service
+pub mod Prefix
+pub mod Ticks
+pub mod Before
+pub mod After
+pub mod InTime
+pub mod Covered
+pub mod Contended
