@@ -107,7 +107,7 @@ only-parts : (b : Bool) (L e x w : ℕ) → only b (L * e + x * w) ≡ L * only 
 only-parts true L e x w = refl
 only-parts false L e x w = omega arith
 
-module _ (s : Schedule) (cards : CardLaws s) (drawing : DrawLaws s) (l j : ℕ) (is-feed : l < s .feeds) (x : ℕ) (in-time : (k i : ℕ) → k < s .feeds → due s k i < due s l j → Finished s k i (due s k i + x + s .cost k)) where
+module _ (s : Schedule) (cards : CardLaws s) (drawing : DrawLaws s) (l j : ℕ) (is-feed : l < s .feeds) (takes : 1 ≤ s .own l j) (x : ℕ) (in-time : (k i : ℕ) → k < s .feeds → due s k i < due s l j → Finished s k i (due s k i + x + s .cost k)) where
   -- after a slack tick, a feed that did not draw a studied card has finished those that were released
   idle-done : (k t : ℕ) → k < s .feeds → AfterSlack s l j t → studying-before s l j k t ≡ false → (i : ℕ) → i < studied s l j k → s .release k i < t → work s k (suc i) ≤ drawn s k t
   idle-done k zero fk slack idle i inside before = absurd (omega arith)
@@ -141,7 +141,7 @@ module _ (s : Schedule) (cards : CardLaws s) (drawing : DrawLaws s) (l j : ℕ) 
       let early-work = work s k (early s l j k) - drawn s k t in
       let on-hold = only (outside-before s l j k t) (s .stay k) in
       let most : part s l j k t ≤ early-work + (extra s l j k + on-hold) =
-      omega (arith, goal-split s cards l j is-feed k fk, only-most (outside-before s l j k t) (keep s l j k t) (s .stay k) (omega arith)) in
+      omega (arith, goal-split s cards l j is-feed takes k fk, only-most (outside-before s l j k t) (keep s l j k t) (s .stay k) (omega arith)) in
       omega (
         arith,
         mul-le-mul-left (s .hyperperiod) most,
@@ -256,7 +256,7 @@ due-plain L m x progress heaviest over cost some enough gap before now studying 
 module _ (s : Schedule) (cards : CardLaws s) (drawing : DrawLaws s)
     (progress heaviest : ℕ) (overtaking : ℕ → ℕ) (x : ℕ)
     (covers-progress : CoversProgress s progress) (covers-weights : CoversWeights s heaviest) (covers-overtaking : CoversOvertaking s overtaking) (enough : Enough s progress heaviest overtaking x)
-    (l j : ℕ) (is-feed : l < s .feeds)
+    (l j : ℕ) (is-feed : l < s .feeds) (takes : 1 ≤ s .own l j)
     (in-time : (k i : ℕ) → k < s .feeds → due s k i < due s l j → Finished s k i (due s k i + x + s .cost k))
     (pending : (t : ℕ) → t ≤ due s l j → drawn s l t < work s l (suc j)) where
   -- from the last slack tick on, every tick is full
@@ -283,7 +283,7 @@ module _ (s : Schedule) (cards : CardLaws s) (drawing : DrawLaws s)
       due-plain (s .hyperperiod) (s .lanes) x progress heaviest (overtaking l) (s .cost l) (cards .some-hyperperiod) (enough l is-feed)
       (due s l j - from) (potential s l j from) (potential s l j (due s l j))
       _ _ (sum (s .feeds) (s .weight)) (sum (s .feeds) (extra s l j)) _
-      (potential-left s cards drawing l j is-feed x in-time from (far .1) (far .2))
+      (potential-left s cards drawing l j is-feed takes x in-time from (far .1) (far .2))
       (covers-progress α β (never-both s drawing l j from) few (few-both s drawing l j from))
       (covers-weights α few)
       (omega (arith, cards .carried, sum-mono (s .feeds) (λ k. only (α k) (s .weight k)) (s .weight) (λ k fk. only-at-most (α k) (s .weight k))))

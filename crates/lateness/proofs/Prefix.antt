@@ -114,15 +114,19 @@ module _ (s : Schedule) (cards : CardLaws s) (l j : ℕ) (is-feed : l < s .feeds
       (cases-lt (suc (early s l j k)) (studied s l j k))
 
   -- the studied work of a feed is that of its early cards and, where the feed overtakes, at most one cost more
-  pub goal-split : (k : ℕ) → k < s .feeds → goal s l j k ≤ work s k (early s l j k) + extra s l j k
-  goal-split k fk = ⊎-elim
+  pub goal-split : 1 ≤ s .own l j → (k : ℕ) → k < s .feeds → goal s l j k ≤ work s k (early s l j k) + extra s l j k
+  goal-split takes k fk = ⊎-elim
       (λ late.
       let i = early s l j k in
+      let next : studied s l j k ≡ suc i = omega (arith, one-late k fk) in
+      ⊎-elim
+      (λ blank. omega (arith, ap (work s k) next))
+      (λ some.
       let later = late-due k i fk late (omega arith) in
       let apart : k ≢ l = λ same. omega (arith, studied-own k same, release-mono s cards l is-feed i j (omega (arith, studied-own k same)), ap (λ n. s .release n i) same, ap (s .spacing) same) in
-      let over = cards .overtaking k i l j fk is-feed apart (cards .ahead-point k i l j (studied-ahead k i apart late)) later in
+      let over = cards .overtaking k i l j fk is-feed apart some takes (cards .ahead-point k i l j (studied-ahead k i apart late)) later in
       let counts : extra s l j k ≡ s .cost k = simp (ne-eqb k l apart, over) in
-      let next : studied s l j k ≡ suc i = omega (arith, one-late k fk) in
       omega (arith, ap (work s k) next, cards .own-fits k i fk, counts))
+      (cases-lt (s .own k i) 1))
       (λ none. omega (arith, work-mono s k (studied s l j k) (early s l j k) none))
       (cases-lt (early s l j k) (studied s l j k))

@@ -12,7 +12,7 @@ mod share;
 pub use cost::ByCost;
 pub use cost::ByCostMeasure;
 pub use cost::ByCostRanked;
-pub use largest::sum_of_largest;
+pub(crate) use largest::sum_of_largest;
 pub use share::ByShare;
 pub use share::ByShareMeasure;
 pub use share::ByShareRanked;

@@ -17,7 +17,7 @@ fn greatest_divisor(a: u64, b: u64) -> u64
 }
 
 // The least common multiple of a hyperperiod and a spacing.
-pub fn common_multiple(a: u64, b: u64) -> u64
+pub(crate) fn common_multiple(a: u64, b: u64) -> u64
     requires { ⌜ 0 < a ⌝ ∗ ⌜ a ≤ 10000000 ⌝ ∗ ⌜ 0 < b ⌝ ∗ ⌜ b ≤ 60000 ⌝ }
     ensures { λ r. ⌜ r ≡ lcm a b ⌝ }
 {

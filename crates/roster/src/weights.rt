@@ -6,7 +6,7 @@ ghost use Rattle.roster.specs.Feeds.{all-lawful, lawful, weight, weights};
 use crate::feed::Feed;
 
 // A feed's cost in each hyperperiod.
-pub fn weight_of(feed: Feed, hyperperiod: u64) -> u64
+pub(crate) fn weight_of(feed: Feed, hyperperiod: u64) -> u64
     requires { ⌜ lawful feed ≡ true ⌝ ∗ ⌜ hyperperiod ≤ 10000000 ⌝ }
     ensures { λ r. ⌜ (r ≡ weight hyperperiod feed) × (r ≤ 10000000) ⌝ }
 {
@@ -14,7 +14,7 @@ pub fn weight_of(feed: Feed, hyperperiod: u64) -> u64
 }
 
 // The weights of all feeds together.
-pub fn total_weight(feeds: &[Feed], hyperperiod: u64) -> u64
+pub(crate) fn total_weight(feeds: &[Feed], hyperperiod: u64) -> u64
     requires { ⌜ all-lawful (now feeds) ≡ true ⌝ ∗ ⌜ length (now feeds) ≤ 32 ⌝ ∗ ⌜ hyperperiod ≤ 10000000 ⌝ }
     ensures { λ r. ⌜ (r ≡ weights hyperperiod (now (feeds .entry))) × (r ≤ 320000000) ⌝ }
 {
