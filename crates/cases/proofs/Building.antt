@@ -6,10 +6,10 @@ use lib.ListN.{length, getD, drop}
 use Rattle.std.specs.declared.option.Option.{Option}
 use Rattle.std.specs.declared.option.Option.the-variants.{Some, None}
 use Rattle.std.proofs.shelf.Lists.{append-nil, at-drop-more}
-use Rattle.refusal.specs.Told.{Told}
+use Rattle.refusal.specs.Told.{Told, then}
 use Rattle.roster.specs.declared.feed.Feed.{Feed}
 use Rattle.roster.specs.Feeds.{add-refusal}
-use Rattle.cases.specs.Right.{first, present, feeds-refusal}
+use Rattle.cases.specs.Right.{present, feeds-refusal}
 
 module _ (slots : List (Option Feed)) (i : ℕ) (inside : i < length slots) where
   -- what is left at a slot, by what stands there
@@ -23,10 +23,10 @@ module _ (lanes : ℕ) (had all : List Feed) where
 
   pub adding-more : (now left : List Feed) (f : Feed) → None ≡ add-refusal lanes now f → Adding now (f ∷ left) → Adding (now ++ f ∷ []) left
   adding-more now left f passed h =
-      (append-assoc now (f ∷ []) left ∙ h .0, ap (λ o. first o (feeds-refusal lanes (now ++ f ∷ []) left)) passed ∙ h .1)
+      (append-assoc now (f ∷ []) left ∙ h .0, ap (λ o. then o (feeds-refusal lanes (now ++ f ∷ []) left)) passed ∙ h .1)
 
   pub adding-refused : (now left : List Feed) (f : Feed) (t : Told) → Some t ≡ add-refusal lanes now f → Adding now (f ∷ left) → Some t ≡ feeds-refusal lanes had all
-  adding-refused now left f t refused h = ap (λ o. first o (feeds-refusal lanes (now ++ f ∷ []) left)) refused ∙ h .1
+  adding-refused now left f t refused h = ap (λ o. then o (feeds-refusal lanes (now ++ f ∷ []) left)) refused ∙ h .1
 
   pub adding-done : (now : List Feed) → Adding now [] → (now ≡ had ++ all) × (None ≡ feeds-refusal lanes had all)
   adding-done now h = (sym (append-nil now) ∙ h .0, h .1)

@@ -1,5 +1,4 @@
 -- The right answer to a question, by the rules of rosters, orders, hold rules and margins.
-use mathlib.Core.Bool.{cond}
 use mathlib.Core.List.{List, [], _∷_, _++_}
 use mathlib.Core.Path.{_≡_}
 use Prim.Native.Nat.{ℕ, _+_}
@@ -9,7 +8,7 @@ use Rattle.std.specs.shelf.Lists.{All}
 use Rattle.std.specs.declared.option.Option.{Option}
 use Rattle.std.specs.declared.option.Option.the-variants.{Some, None}
 use Rattle.std.specs.declared.result.Result.{Result}
-use Rattle.refusal.specs.Told.{Told, told, refusal}
+use Rattle.refusal.specs.Told.{Told, unless, then, refusal}
 use Rattle.refusal.specs.declared.reason.Refusal.{Refusal}
 use Rattle.refusal.specs.declared.reason.Refusal.the-variants.{Setting}
 use Rattle.policy.specs.Order.{Order, AskedCard}
@@ -27,11 +26,6 @@ use Rattle.cases.specs.declared.plan.HoldPlan.the-variants.{Never, Always, Blo
 use Rattle.cases.specs.declared.plan.Question.{Question}
 use Rattle.cases.specs.declared.plan.Question.the-variants.{Hyperperiod, Margin, Add, Point}
 
--- The refusal that comes first.
-abbrev pub first : Option Told → Option Told → Option Told
-first None later = later
-first (Some t) later = Some t
-
 -- The feeds that are there.
 abbrev pub present : List (Option Feed) → List Feed
 present [] = []
@@ -41,11 +35,11 @@ present (Some f ∷ rest) = f ∷ present rest
 -- The first refusal when feeds are added one after the other to those that a roster has.
 abbrev pub feeds-refusal : ℕ → List Feed → List Feed → Option Told
 feeds-refusal lanes had [] = None
-feeds-refusal lanes had (f ∷ fs) = first (add-refusal lanes had f) (feeds-refusal lanes (had ++ f ∷ []) fs)
+feeds-refusal lanes had (f ∷ fs) = then (add-refusal lanes had f) (feeds-refusal lanes (had ++ f ∷ []) fs)
 
 -- The first refusal when a plan's roster is built.
 abbrev pub plan-refusal : Plan → Option Told
-plan-refusal p = first (lanes-refusal (p .lanes)) (feeds-refusal (p .lanes) [] (present (p .feeds)))
+plan-refusal p = then (lanes-refusal (p .lanes)) (feeds-refusal (p .lanes) [] (present (p .feeds)))
 
 -- What an order's plan means, and whether its settings are refused.
 abbrev pub order-of : OrderPlan → Order
@@ -56,7 +50,7 @@ order-of (Part a b) = part a b
 abbrev pub order-refusal : OrderPlan → Option Told
 order-refusal FirstCome = None
 order-refusal ByDue = None
-order-refusal (Part a b) = cond (part-lawful a b) None (Some (told Setting))
+order-refusal (Part a b) = unless (part-lawful a b) Setting
 
 -- What a hold rule's plan means, and whether its settings are refused.
 abbrev pub hold-of : HoldPlan → Hold
@@ -67,13 +61,13 @@ hold-of (Blocks q) = blocks q
 abbrev pub hold-refusal : HoldPlan → Option Told
 hold-refusal Never = None
 hold-refusal Always = None
-hold-refusal (Blocks q) = cond (blocks-lawful q) None (Some (told Setting))
+hold-refusal (Blocks q) = unless (blocks-lawful q) Setting
 
 -- The refusal that a question meets first.
 abbrev pub question-refusal : Question → Option Told
 question-refusal (Hyperperiod p) = plan-refusal p
-question-refusal (Margin p o h) = first (plan-refusal p) (first (order-refusal o) (hold-refusal h))
-question-refusal (Add p f) = first (plan-refusal p) (add-refusal (p .lanes) (present (p .feeds)) f)
+question-refusal (Margin p o h) = then (plan-refusal p) (then (order-refusal o) (hold-refusal h))
+question-refusal (Add p f) = then (plan-refusal p) (add-refusal (p .lanes) (present (p .feeds)) f)
 question-refusal (Point o spacing release) = order-refusal o
 
 -- The number that answers a question which meets no refusal.

@@ -1,4 +1,5 @@
 -- What a refusal tells its caller: a fixed number, and the layer that refused. Every contract that refuses cites this table.
+use mathlib.Core.Bool.{Bool, true, false}
 use Prim.Native.Nat.{ℕ}
 use Rattle.std.specs.declared.option.Option.{Option}
 use Rattle.std.specs.declared.option.Option.the-variants.{Some, None}
@@ -20,6 +21,16 @@ told Full = record { number = 13; layer = 2 }
 told Hyperperiod = record { number = 14; layer = 2 }
 told Overload = record { number = 15; layer = 2 }
 told Setting = record { number = 16; layer = 2 }
+
+-- A check: nothing where its test holds, else what its refusal tells.
+abbrev pub unless : Bool → Refusal → Option Told
+unless true e = None
+unless false e = Some (told e)
+
+-- Two checks, one after the other: the first that refuses decides.
+abbrev pub then : Option Told → Option Told → Option Told
+then None later = later
+then (Some t) later = Some t
 
 -- What an answer tells of its refusal: nothing where the call was accepted.
 abbrev pub refusal : {X : Type 0} → Result X Refusal → Option Told

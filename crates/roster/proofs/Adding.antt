@@ -1,18 +1,19 @@
 -- One feed more: the checks one by one, and what is known when all have passed.
 use mathlib.Core.Path.{_≡_, refl, sym, ap₂, _∙_}
-use mathlib.Core.Bool.{Bool, true, false, cond}
+use mathlib.Core.Bool.{Bool, true, false}
 use mathlib.Core.List.{List, [], _∷_, _++_, map}
-use Prim.Native.Nat.{ℕ, _+_, _*_, _/_, _≤_, _<_}
+use Prim.Native.Nat.{ℕ, _+_, _*_, _≤_, _<_}
 use native.Mathlib.Omega.{arith}
-use lib.Dec.{leb}
+use lib.Dec.{leb, ltb}
 use lib.ListN.{length, getD}
 use Rattle.std.proofs.shelf.Elements.{all-getD}
 use Rattle.std.proofs.shelf.Lists.{map-push, getD-map, length-map}
 use Rattle.std.proofs.shelf.Sums.{sumBy-push}
-use Rattle.std.proofs.shelf.Tests.{le-leb, lt-leb, leb-true, leb-false}
+use Rattle.std.proofs.shelf.Tests.{le-leb, lt-leb, lt-ltb, leb-true, ltb-true}
 use Rattle.std.specs.declared.option.Option.the-variants.{Some, None}
-use Rattle.refusal.specs.Told.{told}
-use Rattle.refusal.specs.declared.reason.Refusal.the-variants.{Hyperperiod, Overload}
+use Rattle.refusal.specs.Told.{told, unless, then}
+use Rattle.refusal.specs.declared.reason.Refusal.{Refusal}
+use Rattle.refusal.specs.declared.reason.Refusal.the-variants.{Full, Hyperperiod, Overload}
 use Rattle.roster.specs.declared.feed.Feed.{Feed}
 use Rattle.roster.specs.Multiple.{lcm, AllPositive}
 use Rattle.roster.specs.Feeds.{lawful, all-lawful, hyperperiod-of, weight, weights, add-refusal}
@@ -37,14 +38,14 @@ hyperperiod-push fs f = rw (map-push (λ (g : Feed). g .spacing) fs f) (lcm-push
 
 pub refused-long : (lanes : ℕ) (fs : List Feed) (f : Feed) → length fs < 32 → lawful f ≡ true → 10000000 < hyperperiod-of (fs ++ f ∷ []) → Some (told Hyperperiod) ≡ add-refusal lanes fs f
 refused-long lanes fs f room law long =
-    let has-room = lt-leb 32 (length fs) room in
+    let has-room = lt-ltb (length fs) 32 room in
     let too-long = lt-leb (hyperperiod-of (fs ++ f ∷ [])) 10000000 long in
     simp (has-room, law, too-long)
 
 -- the last check, on the sum of the weights
-pub weighed : (lanes : ℕ) (fs : List Feed) (f : Feed) (l total w : ℕ) (carried : Bool) → length fs < 32 → lawful f ≡ true → l ≡ hyperperiod-of (fs ++ f ∷ []) → l ≤ 10000000 → total ≡ weights l fs → w ≡ weight l f → leb (total + w) (lanes * l) ≡ carried → add-refusal lanes fs f ≡ cond carried None (Some (told Overload))
+pub weighed : (lanes : ℕ) (fs : List Feed) (f : Feed) (l total w : ℕ) (carried : Bool) → length fs < 32 → lawful f ≡ true → l ≡ hyperperiod-of (fs ++ f ∷ []) → l ≤ 10000000 → total ≡ weights l fs → w ≡ weight l f → leb (total + w) (lanes * l) ≡ carried → add-refusal lanes fs f ≡ unless carried Overload
 weighed lanes fs f l total w carried room law is-l short is-total is-w test =
-    let has-room = lt-leb 32 (length fs) room in
+    let has-room = lt-ltb (length fs) 32 room in
     let not-long = le-leb l 10000000 short in
     let summed : weights l (fs ++ f ∷ []) ≡ total + w = sumBy-push (weight l) fs f ∙ sym (ap₂ _+_ is-total is-w) in
     simp (has-room, law, ← is-l, not-long, summed, test)
@@ -56,14 +57,14 @@ pub record Accepted (lanes : ℕ) (fs : List Feed) (f : Feed) : Type 0 where
   pub short : hyperperiod-of (fs ++ f ∷ []) ≤ 10000000
   pub carried : weights (hyperperiod-of (fs ++ f ∷ [])) (fs ++ f ∷ []) ≤ lanes * hyperperiod-of (fs ++ f ∷ [])
 
-none-passes : {X : Type 0} (w x y z : X) (full law short carried : Bool) → cond full (Some w) (cond law (cond short (cond carried None (Some z)) (Some y)) (Some x)) ≡ None → (full ≡ false) × (law ≡ true) × (short ≡ true) × (carried ≡ true)
-none-passes w x y z true law short carried h = let no : _≡_ {A = ℕ} 0 1 = cc in absurd (omega arith)
-none-passes w x y z false false short carried h = let no : _≡_ {A = ℕ} 0 1 = cc in absurd (omega arith)
-none-passes w x y z false true false carried h = let no : _≡_ {A = ℕ} 0 1 = cc in absurd (omega arith)
-none-passes w x y z false true true false h = let no : _≡_ {A = ℕ} 0 1 = cc in absurd (omega arith)
-none-passes w x y z false true true true h = (refl, refl, refl, refl)
+none-passes : (w x y z : Refusal) (room law short carried : Bool) → then (unless room w) (then (unless law x) (then (unless short y) (unless carried z))) ≡ None → (room ≡ true) × (law ≡ true) × (short ≡ true) × (carried ≡ true)
+none-passes w x y z false law short carried h = let no : _≡_ {A = ℕ} 0 1 = cc in absurd (omega arith)
+none-passes w x y z true false short carried h = let no : _≡_ {A = ℕ} 0 1 = cc in absurd (omega arith)
+none-passes w x y z true true false carried h = let no : _≡_ {A = ℕ} 0 1 = cc in absurd (omega arith)
+none-passes w x y z true true true false h = let no : _≡_ {A = ℕ} 0 1 = cc in absurd (omega arith)
+none-passes w x y z true true true true h = (refl, refl, refl, refl)
 
 pub accepted-from-none : (lanes : ℕ) (fs : List Feed) (f : Feed) → add-refusal lanes fs f ≡ None → Accepted lanes fs f
 accepted-from-none lanes fs f h =
-    let passed = none-passes _ _ _ _ _ _ _ _ h in
-    record { room = leb-false 32 (length fs) (passed .0); law = passed .1; short = leb-true _ _ (passed .2); carried = leb-true _ _ (passed .3) }
+    let passed = none-passes Full Refusal.Feed Hyperperiod Overload (ltb (length fs) 32) (lawful f) (leb (hyperperiod-of (fs ++ f ∷ [])) 10000000) (leb (weights (hyperperiod-of (fs ++ f ∷ [])) (fs ++ f ∷ [])) (lanes * hyperperiod-of (fs ++ f ∷ []))) h in
+    record { room = ltb-true (length fs) 32 (passed .0); law = passed .1; short = leb-true _ _ (passed .2); carried = leb-true _ _ (passed .3) }
