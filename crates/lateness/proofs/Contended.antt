@@ -47,7 +47,7 @@ card-laws = record {
   point-high = λ k j _. omega arith;
   ahead-transitive = λ k i l j p q g h. grind (arith, tells);
   ahead-point = λ k i l j h. grind (arith, tells);
-  ahead-own = λ k i j h. let rises = point-rises k i j h in grind (arith, tells);
+  ahead-own = λ k i j _ h. let rises = point-rises k i j h in grind (arith, tells);
   overtaking = λ k i l j _ _ _ _ _ le lt. absurd (omega arith);
 }
   where

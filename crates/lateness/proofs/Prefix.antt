@@ -69,25 +69,25 @@ module _ (s : Schedule) (cards : CardLaws s) (l j : ℕ) (is-feed : l < s .feeds
   studied-other : (k : ℕ) → k ≢ l → studied s l j k ≡ count (suc (due s l j)) (λ i. s .ahead k i l j)
   studied-other k apart = cond-false (eqb k l) _ _ (ne-eqb k l apart)
 
-  ahead-closed : (k a b : ℕ) → a < b → s .ahead k b l j ≡ true → s .ahead k a l j ≡ true
-  ahead-closed k a b less h = cards .ahead-transitive k a k b l j (cards .ahead-own k a b less) h
+  ahead-closed : (k : ℕ) → k < s .feeds → (a b : ℕ) → a < b → s .ahead k b l j ≡ true → s .ahead k a l j ≡ true
+  ahead-closed k fk a b less h = cards .ahead-transitive k a k b l j (cards .ahead-own k a b fk less) h
 
   ahead-released : (k i : ℕ) → k < s .feeds → s .ahead k i l j ≡ true → s .release k i ≤ due s l j
   ahead-released k i fk h = omega (arith, cards .point-low k i fk, cards .ahead-point k i l j h, cards .point-high l j is-feed)
 
-  pub studied-ahead : (k i : ℕ) → k ≢ l → i < studied s l j k → s .ahead k i l j ≡ true
-  studied-ahead k i apart h =
-      below-count (λ i. s .ahead k i l j) (ahead-closed k) (suc (due s l j)) i (omega (arith, studied-other k apart))
+  pub studied-ahead : (k i : ℕ) → k < s .feeds → k ≢ l → i < studied s l j k → s .ahead k i l j ≡ true
+  studied-ahead k i fk apart h =
+      below-count (λ i. s .ahead k i l j) (ahead-closed k fk) (suc (due s l j)) i (omega (arith, studied-other k apart))
 
   pub ahead-studied : (k i : ℕ) → k < s .feeds → k ≢ l → s .ahead k i l j ≡ true → i < studied s l j k
   ahead-studied k i fk apart h =
       let soon : i < suc (due s l j) = omega (arith, release-least s cards k fk i, ahead-released k i fk h) in
-      omega (arith, studied-other k apart, count-above (λ i. s .ahead k i l j) (ahead-closed k) (suc (due s l j)) i soon h)
+      omega (arith, studied-other k apart, count-above (λ i. s .ahead k i l j) (ahead-closed k fk) (suc (due s l j)) i soon h)
 
   pub studied-released : (k i : ℕ) → k < s .feeds → i < studied s l j k → s .release k i ≤ due s l j
   studied-released k i fk h = ⊎-elim
       (λ same. omega (arith, ap (λ n. s .release n i) same, release-mono s cards l is-feed i j (omega (arith, studied-own k same))))
-      (λ apart. ahead-released k i fk (studied-ahead k i apart h))
+      (λ apart. ahead-released k i fk (studied-ahead k i fk apart h))
       (cases-eq k l)
 
   early-closed : (k : ℕ) → k < s .feeds → (a b : ℕ) → a < b → leb (due s k b) (due s l j) ≡ true → leb (due s k a) (due s l j) ≡ true
@@ -124,7 +124,7 @@ module _ (s : Schedule) (cards : CardLaws s) (l j : ℕ) (is-feed : l < s .feeds
       (λ some.
       let later = late-due k i fk late (omega arith) in
       let apart : k ≢ l = λ same. omega (arith, studied-own k same, release-mono s cards l is-feed i j (omega (arith, studied-own k same)), ap (λ n. s .release n i) same, ap (s .spacing) same) in
-      let over = cards .overtaking k i l j fk is-feed apart some takes (cards .ahead-point k i l j (studied-ahead k i apart late)) later in
+      let over = cards .overtaking k i l j fk is-feed apart some takes (cards .ahead-point k i l j (studied-ahead k i fk apart late)) later in
       let counts : extra s l j k ≡ s .cost k = simp (ne-eqb k l apart, over) in
       omega (arith, ap (work s k) next, cards .own-fits k i fk, counts))
       (cases-lt (s .own k i) 1))

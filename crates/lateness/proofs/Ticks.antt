@@ -107,16 +107,16 @@ module _ (s : Schedule) (cards : CardLaws s) (drawing : DrawLaws s) (l j : ℕ) 
 
   module _ (t : ℕ) (pending : drawn s l t < work s l (suc j)) where
     -- while the card under study is not finished, what is drawn ahead of a studied card is studied
-    ahead-studying : (k i k′ i′ : ℕ) → k < s .feeds → Current s k i t → i′ < studied s l j k′ → s .ahead k i k′ i′ ≡ true → drawn s k t < goal s l j k
-    ahead-studying k i k′ i′ fk here inside ahead = ⊎-elim
+    ahead-studying : (k i k′ i′ : ℕ) → k < s .feeds → k′ < s .feeds → Current s k i t → i′ < studied s l j k′ → s .ahead k i k′ i′ ≡ true → drawn s k t < goal s l j k
+    ahead-studying k i k′ i′ fk fk′ here inside ahead = ⊎-elim
         (λ own. omega (arith, ap (λ n. drawn s n t) own, ap (work s l) (studied-own s cards l j is-feed k own), ap (λ n. work s n (studied s l j k)) own))
         (λ apart.
         let over : s .ahead k i l j ≡ true = ⊎-elim
         (λ same. ⊎-elim
-        (λ less. cards .ahead-transitive k i k′ i′ l j ahead (ap (λ n. s .ahead n i′ l j) same ∙ cards .ahead-own l i′ j less))
+        (λ less. cards .ahead-transitive k i k′ i′ l j ahead (ap (λ n. s .ahead n i′ l j) same ∙ cards .ahead-own l i′ j is-feed less))
         (λ last. let is-j : i′ ≡ j = omega (arith, studied-own s cards l j is-feed k′ same) in sym (ap₂ (s .ahead k i) same is-j) ∙ ahead)
         (cases-lt i′ j))
-        (λ other. cards .ahead-transitive k i k′ i′ l j ahead (studied-ahead s cards l j is-feed k′ i′ other inside))
+        (λ other. cards .ahead-transitive k i k′ i′ l j ahead (studied-ahead s cards l j is-feed k′ i′ fk′ other inside))
         (cases-eq k′ l) in
         omega (arith, here .unfinished, work-mono s k (suc i) (studied s l j k) (ahead-studied s cards l j is-feed k i fk apart over)))
         (cases-eq k l)
@@ -131,7 +131,7 @@ module _ (s : Schedule) (cards : CardLaws s) (drawing : DrawLaws s) (l j : ℕ) 
               let ready = drawing .draws-ready k t fk draws in
               ⊎-elim
               inr
-              (λ ahead. inl (and-from _ _ draws (lt-ltb _ _ (ahead-studying k (ready .0) k′ i′ fk (ready .1 .current) (found .1) ahead))))
+              (λ ahead. inl (and-from _ _ draws (lt-ltb _ _ (ahead-studying k (ready .0) k′ i′ fk fk′ (ready .1 .current) (found .1) ahead))))
               (drawing .chosen k′ i′ t fk′ (found .2) idle k (ready .0) fk draws (ready .1 .current));
         }
 

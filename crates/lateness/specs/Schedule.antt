@@ -78,7 +78,7 @@ module _ (s : Schedule) where
     -- being ahead is transitive, has the smaller or the same point, and goes by number on one feed; nothing else is known of ties
     pub ahead-transitive : (k i l j p q : ℕ) → s .ahead k i l j ≡ true → s .ahead l j p q ≡ true → s .ahead k i p q ≡ true
     pub ahead-point : (k i l j : ℕ) → s .ahead k i l j ≡ true → s .point k i ≤ s .point l j
-    pub ahead-own : (k i j : ℕ) → i < j → s .ahead k i k j ≡ true
+    pub ahead-own : (k i j : ℕ) → k < s .feeds → i < j → s .ahead k i k j ≡ true
     -- of two cards of different feeds that take some tick: a point no greater and a later due mean that the first feed overtakes the other
     pub overtaking : (k i l j : ℕ) → k < s .feeds → l < s .feeds → k ≢ l → 1 ≤ s .own k i → 1 ≤ s .own l j → s .point k i ≤ s .point l j → due l j < due k i → s .overtakes k l ≡ true
 

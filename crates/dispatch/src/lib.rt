@@ -1,0 +1,7 @@
+//! The dispatcher's machine, and the law over every run of it.
+mod law;
+mod reason;
+
+pub use law::listing_stands;
+pub use law::runs_on_time;
+pub use reason::CallRefusal;
