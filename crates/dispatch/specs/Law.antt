@@ -5,8 +5,10 @@ use mathlib.Core.Path.{_≡_}
 use Prim.Native.Nat.{ℕ, _+_, _*_, _≤_, _<_}
 use lib.ListN.{length, getD}
 use Rattle.std.specs.declared.option.Option.the-variants.{None}
-use Rattle.policy.specs.Order.{Within, Overtaking}
-use Rattle.policy.specs.Hold.{Unheld}
+use Rattle.policy.specs.Order.{Order, Within, Overtaking}
+use Rattle.policy.specs.Hold.{Hold, Unheld}
+use Rattle.roster.specs.declared.table.Roster.{Roster}
+use Rattle.roster.specs.Roster.{feeds}
 use Rattle.roster.specs.Feeds.{all-lawful, hyperperiod-of, weights}
 use Rattle.roster.specs.Margin.{at, Margin}
 use Rattle.dispatch.specs.Machine.{Opened, State, opening, release-refusal, release, step-refusal, advance, picks}
@@ -52,8 +54,14 @@ FewPicks o (released n c ∷ es) = FewPicks o es
 FewPicks o (stepped ps ∷ es) = (length ps ≤ o .lanes) × FewPicks o es
 FewPicks o (refused ∷ es) = FewPicks o es
 
--- The law: every run that the machine gives from opening is on time, under the margin of its roster, order and hold rule.
+-- Every run that the machine gives from opening is on time under x, and no step of it has more picks than lanes.
+abbrev pub Timely : Opened → ℕ → Type 0
+Timely o x = (es : List Event) → Gives o (opening o) es → OnTime o x es × FewPicks o es
+
+-- The law: that holds under the margin of every lawful roster, order and hold rule.
 abbrev pub RunsOnTime : Type 0
-RunsOnTime =
-    (o : Opened) → Lawful o → (x : ℕ) → Margin (o .lanes) (o .feeds) (o .order) (o .hold) x →
-    (es : List Event) → Gives o (opening o) es → OnTime o x es × FewPicks o es
+RunsOnTime = (o : Opened) → Lawful o → (x : ℕ) → Margin (o .lanes) (o .feeds) (o .order) (o .hold) x → Timely o x
+
+-- What a dispatcher is opened with, by a roster and the meanings of an order and a hold rule.
+abbrev pub opened : Roster → Order → Hold → Opened
+opened r order hold = record { lanes = r .lanes; feeds = feeds r; order = order; hold = hold }
