@@ -8,7 +8,7 @@ use Rattle.std.specs.shelf.Lists.{All}
 use Rattle.std.specs.declared.option.Option.{Option}
 use Rattle.std.specs.declared.option.Option.the-variants.{Some, None}
 use Rattle.std.specs.declared.result.Result.{Result}
-use Rattle.refusal.specs.Told.{Told, unless, then, refusal}
+use Rattle.refusal.specs.Told.{Told, told, unless, then, refusal}
 use Rattle.refusal.specs.declared.reason.Refusal.{Refusal}
 use Rattle.refusal.specs.declared.reason.Refusal.the-variants.{Setting}
 use Rattle.policy.specs.Order.{Order, AskedCard}
@@ -50,7 +50,7 @@ order-of (Part a b) = part a b
 abbrev pub order-refusal : OrderPlan → Option Told
 order-refusal FirstCome = None
 order-refusal ByDue = None
-order-refusal (Part a b) = unless (part-lawful a b) Setting
+order-refusal (Part a b) = unless (part-lawful a b) (told Setting)
 
 -- What a hold rule's plan means, and whether its settings are refused.
 abbrev pub hold-of : HoldPlan → Hold
@@ -61,7 +61,7 @@ hold-of (Blocks q) = blocks q
 abbrev pub hold-refusal : HoldPlan → Option Told
 hold-refusal Never = None
 hold-refusal Always = None
-hold-refusal (Blocks q) = unless (blocks-lawful q) Setting
+hold-refusal (Blocks q) = unless (blocks-lawful q) (told Setting)
 
 -- The refusal that a question meets first.
 abbrev pub question-refusal : Question → Option Told

@@ -19,16 +19,13 @@ use Rattle.roster.specs.declared.feed.Feed.{Feed}
 use Rattle.roster.specs.Feeds.{lawful, hyperperiod-of, weight}
 use Rattle.roster.specs.Margin.{at}
 use Rattle.roster.proofs.Lawful.{Rules, rules-from-lawful, each-passes}
-use Rattle.roster.proofs.Adding.{hyperperiod-positive}
-use Rattle.roster.proofs.Multiples.{lcm-all-times}
+use Rattle.roster.proofs.Adding.{hyperperiod-positive, spacing-divides}
 use Rattle.lateness.specs.Sums.{sum, only, count}
 use Rattle.lateness.specs.Schedule.{Schedule, CardLaws, DrawLaws, due, Current, Ready, held-for}
 use Rattle.lateness.proofs.Service.{current-first}
-use Rattle.std.specs.declared.option.Option.the-variants.{Some, None}
-use Rattle.refusal.specs.Told.{then}
-use Rattle.dispatch.specs.declared.reason.CallRefusal.{CallRefusal}
+use Rattle.refusal.proofs.Checks.{check-passed, checks-passed}
 use Rattle.dispatch.specs.declared.reason.CallRefusal.the-variants.{Clock}
-use Rattle.dispatch.specs.Told.{unless}
+use Rattle.dispatch.specs.Told.{told}
 use Rattle.dispatch.specs.Machine.{Opened, State, Kept, fresh, opening, kept-at, front, ready, holds, goes-ahead, comes-first, chosen, ahead, release, advance}
 use Rattle.dispatch.specs.Run.{Event, released, stepped, refused, Accepted, clock-of, cards-of}
 use Rattle.dispatch.specs.Law.{Gives, Lawful}
@@ -45,24 +42,12 @@ sum-places f fs (suc i) h =
     let z : i + 1 ≡ suc i = omega arith in
     ap (λ n. n + f (at fs i)) (sum-places f fs i (omega arith)) ∙ sym (sumBy-more f fs i _ (omega arith)) ∙ ap (λ n. sumBy f (take n fs)) z
 
--- the hyperperiod is a multiple of each spacing
-spacing-divides : (fs : List Feed) (k : ℕ) → k < length fs → hyperperiod-of fs / at fs k .spacing * at fs k .spacing ≡ hyperperiod-of fs
-spacing-divides fs k inside =
-    let spacings = map (λ (f : Feed). f .spacing) fs in
-    let here : getD spacings k 0 ≡ at fs k .spacing = getD-map (λ (f : Feed). f .spacing) fs k _ 0 inside in
-    ap (λ p. hyperperiod-of fs / p * p) (sym here) ∙ lcm-all-times spacings k (omega (arith, length-map fs (λ (f : Feed). f .spacing)))
-
 -- the clock of a run is within its end
 clock-bound : (o : Opened) (s : State) (es : List Event) → Gives o s es → s .clock ≤ 1000000000 → s .clock + clock-of es ≤ 1000000000
 clock-bound o s [] gives h = omega arith
 clock-bound o s (released n c ∷ es) gives h = clock-bound o (release s n c) es (gives .1) h
 clock-bound o s (refused ∷ es) gives h = clock-bound o s es gives h
-clock-bound o s (stepped ps ∷ es) gives h = omega (arith, clock-bound o (advance o s) es (gives .2) (ltb-true _ _ (last-check (leb (o .lanes) (o .lanes)) (ltb (s .clock) 1000000000) (gives .0))))
-  where
-    last-check : (a b : Bool) → then (unless a CallRefusal.List) (unless b Clock) ≡ None → b ≡ true
-    last-check true true e = refl
-    last-check true false e = let no : _≡_ {A = ℕ} 0 1 = cc in absurd (omega arith)
-    last-check false b e = let no : _≡_ {A = ℕ} 0 1 = cc in absurd (omega arith)
+clock-bound o s (stepped ps ∷ es) gives h = omega (arith, clock-bound o (advance o s) es (gives .2) (ltb-true _ _ (check-passed _ (told Clock) (checks-passed (leb (o .lanes) (o .lanes)) _ _ (gives .0) .1))))
 
 -- the same points and releases under other names
 same-ahead : (p p′ r r′ q q′ u u′ g h m n : ℕ) → p ≡ p′ → r ≡ r′ → q ≡ q′ → u ≡ u′ → ahead p g m r q h n u ≡ true → ahead p′ g m r′ q′ h n u′ ≡ true

@@ -7,7 +7,7 @@ use native.Mathlib.Omega.{arith}
 use lib.Dec.{ltb}
 use Rattle.std.proofs.shelf.Tests.{and-parts, and-from, and-right, cases-lt, cases-bool, cases-eq, both-ways, ltb-true, ltb-false, lt-ltb, le-ltb, not-true, not-from-false}
 use Rattle.lateness.specs.Sums.{sum, only, count}
-use Rattle.lateness.proofs.Sums.{only-mono, count-mono, count-strict}
+use Rattle.lateness.proofs.Sums.{only-small, only-mono, count-none, count-mono, count-strict}
 
 -- all of the first set but one are in the second
 count-but-one : (n z : ℕ) (p q : ℕ → Bool) → ((k : ℕ) → k < n → p k ≡ true → k ≢ z → q k ≡ true) → count n p ≤ suc (count n q)
@@ -16,10 +16,6 @@ count-but-one (suc n) z p q h = ⊎-elim
     (λ last. omega (arith, only-small (p n), count-mono n p q (λ k b yes. h k (omega arith) yes (λ same. omega (arith, same)))))
     (λ other. omega (arith, only-mono (p n) (q n) 1 (λ yes. h n (omega arith) yes other), count-but-one n z p q (λ k b. h k (omega arith))))
     (cases-eq n z)
-  where
-    only-small : (b : Bool) → only b 1 ≤ 1
-    only-small true = omega arith
-    only-small false = omega arith
 
 -- a set is empty below n, or has an element there that every other stands before, in any order that is total and transitive
 module _ (q : ℕ → Bool) (before : ℕ → ℕ → Bool)
@@ -84,10 +80,6 @@ module _ (n m : ℕ) (ready : ℕ → Bool) (before : ℕ → ℕ → Bool)
       let w = found .0 in
       omega (arith, ltb-true _ _ (and-parts (ready w) _ (found .1 .1) .1), count-but-one n w taken (λ p. ready p && before p w) (λ k b yes apart. and-from _ _ (and-parts (ready k) _ yes .0) (found .1 .2 k b yes apart))))
       (last-of taken before total trans n)
-    where
-      count-none : (i : ℕ) → count i (λ _. false) ≡ 0
-      count-none zero = refl
-      count-none (suc i) = omega (arith, count-none i)
 
   -- where something ready is not taken, m are
   pub all-taken : (l : ℕ) → l < n → ready l ≡ true → taken l ≡ false → m ≤ count n taken

@@ -10,12 +10,11 @@ use lib.ListN.{length, getD, set}
 use Rattle.std.specs.declared.option.Option.the-variants.{Some, None}
 use Rattle.std.proofs.shelf.Lists.{getD-set-same, getD-set-other, length-set, length-map, getD-map}
 use Rattle.std.proofs.shelf.Tests.{and-parts, cases-eq, cases-lt, eq-eqb, ne-eqb, leb-true, ltb-true, cond-true, cond-false}
-use Rattle.refusal.specs.Told.{Told, then}
+use Rattle.refusal.proofs.Checks.{check-passed, checks-passed}
 use Rattle.roster.specs.declared.feed.Feed.{Feed}
 use Rattle.roster.specs.Margin.{at}
-use Rattle.dispatch.specs.declared.reason.CallRefusal.{CallRefusal}
-use Rattle.dispatch.specs.declared.reason.CallRefusal.the-variants.{NoFeed, Cost, Sooner, Waiting}
-use Rattle.dispatch.specs.Told.{unless}
+use Rattle.dispatch.specs.declared.reason.CallRefusal.the-variants.{Waiting}
+use Rattle.dispatch.specs.Told.{told}
 use Rattle.dispatch.specs.Machine.{Opened, Card, Kept, State, fresh, opening, kept-at, apart, release-refusal, admit, release, chosen, draw, pass, moved, advance}
 use Rattle.dispatch.specs.Run.{Event, released, stepped, refused}
 use Rattle.dispatch.specs.Law.{Gives}
@@ -52,20 +51,15 @@ pub record Allowed (o : Opened) (s : State) (n c : ℕ) : Type 0 where
   pub spaced : apart (kept-at s (n - 1) .last) (at (o .feeds) (n - 1) .spacing) (s .clock) ≡ true
   pub room : length (kept-at s (n - 1) .waiting) < 16
 
-none-passes : (w x y z : CallRefusal) (a b c d : Bool) → then (unless a w) (then (unless b x) (then (unless c y) (unless d z))) ≡ None → (a ≡ true) × (b ≡ true) × (c ≡ true) × (d ≡ true)
-none-passes w x y z false b c d h = let no : _≡_ {A = ℕ} 0 1 = cc in absurd (omega arith)
-none-passes w x y z true false c d h = let no : _≡_ {A = ℕ} 0 1 = cc in absurd (omega arith)
-none-passes w x y z true true false d h = let no : _≡_ {A = ℕ} 0 1 = cc in absurd (omega arith)
-none-passes w x y z true true true false h = let no : _≡_ {A = ℕ} 0 1 = cc in absurd (omega arith)
-none-passes w x y z true true true true h = (refl, refl, refl, refl)
-
 pub allowed-from-none : (o : Opened) (s : State) (n c : ℕ) → release-refusal o s n c ≡ None → Allowed o s n c
 allowed-from-none o s n c h =
     let k = n - 1 in
-    let passed = none-passes NoFeed Cost Sooner Waiting (leb 1 n && leb n (length (o .feeds))) (leb 1 c && leb c (at (o .feeds) k .cost)) (apart (kept-at s k .last) (at (o .feeds) k .spacing) (s .clock)) (ltb (length (kept-at s k .waiting)) 16) h in
-    let number = and-parts (leb 1 n) (leb n (length (o .feeds))) (passed .0) in
-    let cost = and-parts (leb 1 c) (leb c (at (o .feeds) k .cost)) (passed .1) in
-    record { low = leb-true _ _ (number .0); high = leb-true _ _ (number .1); some = leb-true _ _ (cost .0); fits = leb-true _ _ (cost .1); spaced = passed .2; room = ltb-true _ _ (passed .3) }
+    let is-feed = checks-passed (leb 1 n && leb n (length (o .feeds))) _ _ h in
+    let is-cost = checks-passed (leb 1 c && leb c (at (o .feeds) k .cost)) _ _ (is-feed .1) in
+    let later = checks-passed (apart (kept-at s k .last) (at (o .feeds) k .spacing) (s .clock)) _ _ (is-cost .1) in
+    let number = and-parts (leb 1 n) (leb n (length (o .feeds))) (is-feed .0) in
+    let cost = and-parts (leb 1 c) (leb c (at (o .feeds) k .cost)) (is-cost .0) in
+    record { low = leb-true _ _ (number .0); high = leb-true _ _ (number .1); some = leb-true _ _ (cost .0); fits = leb-true _ _ (cost .1); spaced = later .0; room = ltb-true _ _ (check-passed _ (told Waiting) (later .1)) }
 
 -- a list of feeds moved, feed by feed
 length-moved : (picks : ℕ → Bool) (clock k : ℕ) (fs : List Feed) (rs : List Kept) → length (moved picks clock k fs rs) ≡ length rs

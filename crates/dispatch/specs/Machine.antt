@@ -6,7 +6,7 @@ use lib.Dec.{leb, ltb, eqb}
 use lib.ListN.{length, getD, set}
 use Rattle.std.specs.declared.option.Option.{Option}
 use Rattle.std.specs.declared.option.Option.the-variants.{Some, None}
-use Rattle.refusal.specs.Told.{Told, then}
+use Rattle.refusal.specs.Told.{Told, unless, then}
 use Rattle.policy.specs.Order.{Order}
 use Rattle.policy.specs.Hold.{Hold}
 use Rattle.roster.specs.declared.feed.Feed.{Feed}
@@ -15,7 +15,7 @@ use Rattle.sorted.specs.Order.{sort}
 use Rattle.lateness.specs.Sums.{count}
 use Rattle.dispatch.specs.declared.reason.CallRefusal.{CallRefusal}
 use Rattle.dispatch.specs.declared.reason.CallRefusal.the-variants.{NoFeed, Cost, Sooner, Waiting, Clock}
-use Rattle.dispatch.specs.Told.{unless}
+use Rattle.dispatch.specs.Told.{told}
 
 -- What a dispatcher is opened with: a roster's lanes and feeds, an order and a hold rule.
 pub record Opened : Type 0 where
@@ -62,10 +62,10 @@ apart (Some release) spacing clock = leb (release + spacing) clock
 abbrev pub release-refusal : Opened → State → ℕ → ℕ → Option Told
 release-refusal o s n cost =
     let k = n - 1 in
-    then (unless (leb 1 n && leb n (length (o .feeds))) NoFeed)
-    (then (unless (leb 1 cost && leb cost (at (o .feeds) k .cost)) Cost)
-    (then (unless (apart (kept-at s k .last) (at (o .feeds) k .spacing) (s .clock)) Sooner)
-    (unless (ltb (length (kept-at s k .waiting)) 16) Waiting)))
+    then (unless (leb 1 n && leb n (length (o .feeds))) (told NoFeed))
+    (then (unless (leb 1 cost && leb cost (at (o .feeds) k .cost)) (told Cost))
+    (then (unless (apart (kept-at s k .last) (at (o .feeds) k .spacing) (s .clock)) (told Sooner))
+    (unless (ltb (length (kept-at s k .waiting)) 16) (told Waiting))))
 
 -- One card more, released now.
 abbrev pub admit : ℕ → ℕ → Kept → Kept
@@ -77,7 +77,7 @@ release s n cost = record { clock = s .clock; kept = set (s .kept) (n - 1) (admi
 
 -- The checks of a step with a list of that length for its picks, in their order.
 abbrev pub step-refusal : Opened → State → ℕ → Option Told
-step-refusal o s room = then (unless (leb (o .lanes) room) CallRefusal.List) (unless (ltb (s .clock) 1000000000) Clock)
+step-refusal o s room = then (unless (leb (o .lanes) room) (told CallRefusal.List)) (unless (ltb (s .clock) 1000000000) (told Clock))
 
 -- The first waiting card.
 abbrev pub front : Kept → Card

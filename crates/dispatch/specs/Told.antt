@@ -1,7 +1,4 @@
 -- What a refusal of the dispatcher tells: a fixed number, and layer 3.
-use mathlib.Core.Bool.{Bool, true, false}
-use Rattle.std.specs.declared.option.Option.{Option}
-use Rattle.std.specs.declared.option.Option.the-variants.{Some, None}
 use Rattle.refusal.specs.Told.{Told}
 use Rattle.dispatch.specs.declared.reason.CallRefusal.{CallRefusal}
 use Rattle.dispatch.specs.declared.reason.CallRefusal.the-variants.{NoFeed, Cost, Sooner, Waiting, Clock, List}
@@ -14,8 +11,3 @@ told Sooner = record { number = 23; layer = 3 }
 told Waiting = record { number = 24; layer = 3 }
 told Clock = record { number = 25; layer = 3 }
 told List = record { number = 26; layer = 3 }
-
--- A check: nothing where its test holds, else what its refusal tells.
-abbrev pub unless : Bool → CallRefusal → Option Told
-unless true e = None
-unless false e = Some (told e)

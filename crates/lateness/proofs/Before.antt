@@ -10,7 +10,7 @@ use Rattle.std.proofs.shelf.Tests.{cases-lt, cases-bool, both-ways, ltb-true, l
 use Rattle.lateness.specs.Sums.{sum, only, count}
 use Rattle.lateness.specs.Schedule.{Schedule, CardLaws, DrawLaws, due, drawn, work, Current, Ready, Finished}
 use Rattle.lateness.specs.Cover.{CoversProgress, CoversWeights, CoversOvertaking, Enough}
-use Rattle.lateness.proofs.Sums.{sum-mono, sum-add, sum-scale}
+use Rattle.lateness.proofs.Sums.{sum-mono, sum-add, sum-scale, count-none}
 use Rattle.lateness.proofs.Service.{drawn-mono, drawn-at-most, work-mono, work-in-window, current-below, current-first, release-mono, weight-at-most}
 use Rattle.lateness.proofs.Prefix.{studied, goal, early, extra, count-at-most, below-count, count-above, early-due, early-studied, goal-split}
 use Rattle.lateness.proofs.Ticks.{studying, outside, outside-before, Slack, keep, part, potential, ready-waits, potential-falls, slack-or-full}
@@ -198,10 +198,6 @@ apart-plain : (draws inside : Bool) → ((draws && inside) && (draws && not insi
 apart-plain true true = refl
 apart-plain true false = refl
 apart-plain false inside = refl
-
-count-none : (n : ℕ) → count n (λ _. false) ≡ 0
-count-none zero = refl
-count-none (suc n) = omega (arith, count-none n)
 
 module _ (s : Schedule) (drawing : DrawLaws s) (l j : ℕ) where
   few-studying : (t : ℕ) → AfterSlack s l j t → count (s .feeds) (λ k. studying-before s l j k t) ≤ s .lanes - 1

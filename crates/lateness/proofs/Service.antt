@@ -8,11 +8,7 @@ use native.Mathlib.Omega.{arith}
 use Rattle.std.proofs.shelf.Tests.{cases-lt}
 use Rattle.lateness.specs.Sums.{sum, only, count}
 use Rattle.lateness.specs.Schedule.{Schedule, CardLaws, DrawLaws, due, drawn, work, Current, Ready, Finished}
-use Rattle.lateness.proofs.Sums.{sum-more}
-
-only-small : (b : Bool) → only b 1 ≤ 1
-only-small true = omega arith
-only-small false = omega arith
+use Rattle.lateness.proofs.Sums.{sum-more, only-small}
 
 module _ (s : Schedule) (k : ℕ) where
   pub drawn-mono : (t u : ℕ) → t ≤ u → drawn s k t ≤ drawn s k u

@@ -34,6 +34,10 @@ sum-more f m (suc n) h = ⊎-elim
     (λ last. let same : m ≡ suc n = omega arith in omega (arith, ap (λ i. sum i f) same))
     (cases-lt m (suc n))
 
+pub only-small : (b : Bool) → only b 1 ≤ 1
+only-small true = omega arith
+only-small false = omega arith
+
 -- v once, where a test that implies it holds
 pub only-mono : (a b : Bool) (v : ℕ) → (a ≡ true → b ≡ true) → only a v ≤ only b v
 only-mono true b v h = let yes = h refl in rw yes (omega arith)
@@ -73,3 +77,7 @@ any-none (suc n) q h k b =
     (λ below. any-none n q (parts .1) k below)
     (λ last. let same : k ≡ n = omega arith in ap q same ∙ parts .0)
     (cases-lt k n)
+
+pub count-none : (n : ℕ) → count n (λ _. false) ≡ 0
+count-none zero = refl
+count-none (suc n) = omega (arith, count-none n)

@@ -23,9 +23,9 @@ told Overload = record { number = 15; layer = 2 }
 told Setting = record { number = 16; layer = 2 }
 
 -- A check: nothing where its test holds, else what its refusal tells.
-abbrev pub unless : Bool → Refusal → Option Told
-unless true e = None
-unless false e = Some (told e)
+abbrev pub unless : Bool → Told → Option Told
+unless true t = None
+unless false t = Some t
 
 -- Two checks, one after the other: the first that refuses decides.
 abbrev pub then : Option Told → Option Told → Option Told

@@ -1,8 +1,8 @@
 -- One feed more: the checks one by one, and what is known when all have passed.
-use mathlib.Core.Path.{_≡_, refl, sym, ap₂, _∙_}
-use mathlib.Core.Bool.{Bool, true, false}
+use mathlib.Core.Path.{_≡_, sym, ap, ap₂, _∙_}
+use mathlib.Core.Bool.{Bool, true}
 use mathlib.Core.List.{List, [], _∷_, _++_, map}
-use Prim.Native.Nat.{ℕ, _+_, _*_, _≤_, _<_}
+use Prim.Native.Nat.{ℕ, _+_, _*_, _/_, _≤_, _<_}
 use native.Mathlib.Omega.{arith}
 use lib.Dec.{leb, ltb}
 use lib.ListN.{length, getD}
@@ -11,14 +11,14 @@ use Rattle.std.proofs.shelf.Lists.{map-push, getD-map, length-map}
 use Rattle.std.proofs.shelf.Sums.{sumBy-push}
 use Rattle.std.proofs.shelf.Tests.{le-leb, lt-leb, lt-ltb, leb-true, ltb-true}
 use Rattle.std.specs.declared.option.Option.the-variants.{Some, None}
-use Rattle.refusal.specs.Told.{told, unless, then}
-use Rattle.refusal.specs.declared.reason.Refusal.{Refusal}
-use Rattle.refusal.specs.declared.reason.Refusal.the-variants.{Full, Hyperperiod, Overload}
+use Rattle.refusal.specs.Told.{told, unless}
+use Rattle.refusal.proofs.Checks.{check-passed, checks-passed}
+use Rattle.refusal.specs.declared.reason.Refusal.the-variants.{Hyperperiod, Overload}
 use Rattle.roster.specs.declared.feed.Feed.{Feed}
 use Rattle.roster.specs.Multiple.{lcm, AllPositive}
 use Rattle.roster.specs.Feeds.{lawful, all-lawful, hyperperiod-of, weight, weights, add-refusal}
 use Rattle.roster.proofs.Lawful.{Rules, rules-from-lawful, each-passes}
-use Rattle.roster.proofs.Multiples.{lcm-push, lcm-all-positive}
+use Rattle.roster.proofs.Multiples.{lcm-push, lcm-all-positive, lcm-all-times}
 
 abbrev none : Feed
 none = record { cost = 0; spacing = 0 }
@@ -29,6 +29,13 @@ spacings-positive fs h i within =
     let here = getD-map (λ (f : Feed). f .spacing) fs i none 0 inside in
     let rules = rules-from-lawful (getD fs i none) (all-getD (λ f. lawful f ≡ true) fs i none inside (each-passes lawful fs h)) in
     omega (arith, here, rules .spaced)
+
+-- the hyperperiod is a multiple of each spacing
+pub spacing-divides : (fs : List Feed) (i : ℕ) → i < length fs → hyperperiod-of fs / getD fs i none .spacing * getD fs i none .spacing ≡ hyperperiod-of fs
+spacing-divides fs i inside =
+    let spacings = map (λ (f : Feed). f .spacing) fs in
+    let here : getD spacings i 0 ≡ getD fs i none .spacing = getD-map (λ (f : Feed). f .spacing) fs i none 0 inside in
+    ap (λ p. hyperperiod-of fs / p * p) (sym here) ∙ lcm-all-times spacings i (omega (arith, length-map fs (λ (f : Feed). f .spacing)))
 
 pub hyperperiod-positive : (fs : List Feed) → all-lawful fs ≡ true → 0 < hyperperiod-of fs
 hyperperiod-positive fs h = lcm-all-positive (map (λ f. f .spacing) fs) (spacings-positive fs h)
@@ -43,7 +50,7 @@ refused-long lanes fs f room law long =
     simp (has-room, law, too-long)
 
 -- the last check, on the sum of the weights
-pub weighed : (lanes : ℕ) (fs : List Feed) (f : Feed) (l total w : ℕ) (carried : Bool) → length fs < 32 → lawful f ≡ true → l ≡ hyperperiod-of (fs ++ f ∷ []) → l ≤ 10000000 → total ≡ weights l fs → w ≡ weight l f → leb (total + w) (lanes * l) ≡ carried → add-refusal lanes fs f ≡ unless carried Overload
+pub weighed : (lanes : ℕ) (fs : List Feed) (f : Feed) (l total w : ℕ) (carried : Bool) → length fs < 32 → lawful f ≡ true → l ≡ hyperperiod-of (fs ++ f ∷ []) → l ≤ 10000000 → total ≡ weights l fs → w ≡ weight l f → leb (total + w) (lanes * l) ≡ carried → add-refusal lanes fs f ≡ unless carried (told Overload)
 weighed lanes fs f l total w carried room law is-l short is-total is-w test =
     let has-room = lt-ltb (length fs) 32 room in
     let not-long = le-leb l 10000000 short in
@@ -57,14 +64,14 @@ pub record Accepted (lanes : ℕ) (fs : List Feed) (f : Feed) : Type 0 where
   pub short : hyperperiod-of (fs ++ f ∷ []) ≤ 10000000
   pub carried : weights (hyperperiod-of (fs ++ f ∷ [])) (fs ++ f ∷ []) ≤ lanes * hyperperiod-of (fs ++ f ∷ [])
 
-none-passes : (w x y z : Refusal) (room law short carried : Bool) → then (unless room w) (then (unless law x) (then (unless short y) (unless carried z))) ≡ None → (room ≡ true) × (law ≡ true) × (short ≡ true) × (carried ≡ true)
-none-passes w x y z false law short carried h = let no : _≡_ {A = ℕ} 0 1 = cc in absurd (omega arith)
-none-passes w x y z true false short carried h = let no : _≡_ {A = ℕ} 0 1 = cc in absurd (omega arith)
-none-passes w x y z true true false carried h = let no : _≡_ {A = ℕ} 0 1 = cc in absurd (omega arith)
-none-passes w x y z true true true false h = let no : _≡_ {A = ℕ} 0 1 = cc in absurd (omega arith)
-none-passes w x y z true true true true h = (refl, refl, refl, refl)
-
 pub accepted-from-none : (lanes : ℕ) (fs : List Feed) (f : Feed) → add-refusal lanes fs f ≡ None → Accepted lanes fs f
 accepted-from-none lanes fs f h =
-    let passed = none-passes Full Refusal.Feed Hyperperiod Overload (ltb (length fs) 32) (lawful f) (leb (hyperperiod-of (fs ++ f ∷ [])) 10000000) (leb (weights (hyperperiod-of (fs ++ f ∷ [])) (fs ++ f ∷ [])) (lanes * hyperperiod-of (fs ++ f ∷ []))) h in
-    record { room = ltb-true (length fs) 32 (passed .0); law = passed .1; short = leb-true _ _ (passed .2); carried = leb-true _ _ (passed .3) }
+    let room = checks-passed (ltb (length fs) 32) _ _ h in
+    let law = checks-passed (lawful f) _ _ (room .1) in
+    let short = checks-passed (leb (hyperperiod-of (fs ++ f ∷ [])) 10000000) _ _ (law .1) in
+    record {
+      room = ltb-true (length fs) 32 (room .0);
+      law = law .0;
+      short = leb-true _ _ (short .0);
+      carried = leb-true _ _ (check-passed _ (told Overload) (short .1));
+    }

@@ -7,7 +7,7 @@ use lib.ListN.{length}
 use Rattle.std.specs.shelf.Lawful.{all-pass}
 use Rattle.std.specs.shelf.Lists.{sumBy}
 use Rattle.std.specs.declared.option.Option.{Option}
-use Rattle.refusal.specs.Told.{Told, unless, then}
+use Rattle.refusal.specs.Told.{Told, told, unless, then}
 use Rattle.refusal.specs.declared.reason.Refusal.{Refusal}
 use Rattle.refusal.specs.declared.reason.Refusal.the-variants.{Lanes, Full, Hyperperiod, Overload}
 use Rattle.roster.specs.declared.feed.Feed.{Feed}
@@ -35,14 +35,14 @@ weights hyperperiod fs = sumBy (weight hyperperiod) fs
 
 -- A lane count is 1 to 8.
 abbrev pub lanes-refusal : ℕ → Option Told
-lanes-refusal lanes = unless (leb 1 lanes && leb lanes 8) Lanes
+lanes-refusal lanes = unless (leb 1 lanes && leb lanes 8) (told Lanes)
 
 -- The checks of one feed more, in their order, with that feed counted in.
 abbrev pub add-refusal : ℕ → List Feed → Feed → Option Told
 add-refusal lanes fs f =
     let all = fs ++ f ∷ [] in
     let l = hyperperiod-of all in
-    then (unless (ltb (length fs) 32) Full)
-    (then (unless (lawful f) Refusal.Feed)
-    (then (unless (leb l 10000000) Hyperperiod)
-    (unless (leb (weights l all) (lanes * l)) Overload)))
+    then (unless (ltb (length fs) 32) (told Full))
+    (then (unless (lawful f) (told Refusal.Feed))
+    (then (unless (leb l 10000000) (told Hyperperiod))
+    (unless (leb (weights l all) (lanes * l)) (told Overload))))

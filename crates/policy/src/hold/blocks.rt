@@ -1,7 +1,7 @@
 ghost use mathlib.Core.Bool.{true};
 ghost use mathlib.Core.Path.{_≡_};
 ghost use Rattle.std.specs.Vec.{made};
-ghost use Rattle.refusal.specs.Told.{unless, refusal};
+ghost use Rattle.refusal.specs.Told.{told, unless, refusal};
 ghost use Rattle.policy.specs.Built.{blocks, blocks-lawful};
 use crate::hold::HoldRule;
 use refusal::Refusal;
@@ -16,7 +16,7 @@ pub struct Blocks {
 impl Blocks {
     /// The hold rule blocks q, or a refusal unless 2 ≤ q ≤ 1,000.
     pub fn new(q: u32) -> Result<Blocks, Refusal>
-        ensures answer { λ r. ⌜ refusal r ≡ unless (blocks-lawful q) Refusal.Setting ⌝ }
+        ensures answer { λ r. ⌜ refusal r ≡ unless (blocks-lawful q) (told Refusal.Setting) ⌝ }
         ensures made { λ r. ⌜ made r (λ b. b .q ≡ q) ⌝ }
     {
         if 2 <= q && q <= 1_000 {

@@ -1,7 +1,7 @@
 ghost use mathlib.Core.Bool.{true};
 ghost use mathlib.Core.Path.{_≡_};
 ghost use Rattle.std.specs.Vec.{made};
-ghost use Rattle.refusal.specs.Told.{unless, refusal};
+ghost use Rattle.refusal.specs.Told.{told, unless, refusal};
 ghost use Rattle.policy.specs.Built.{part, part-lawful};
 use crate::order::QueueOrder;
 use refusal::Refusal;
@@ -17,7 +17,7 @@ pub struct Part {
 impl Part {
     /// The order part a b, or a refusal unless 0 < a < b ≤ 1,000.
     pub fn new(a: u32, b: u32) -> Result<Part, Refusal>
-        ensures answer { λ r. ⌜ refusal r ≡ unless (part-lawful a b) Refusal.Setting ⌝ }
+        ensures answer { λ r. ⌜ refusal r ≡ unless (part-lawful a b) (told Refusal.Setting) ⌝ }
         ensures made { λ r. ⌜ made r (λ p. (p .a ≡ a) × (p .b ≡ b)) ⌝ }
     {
         if 0 < a && a < b && b <= 1_000 {
