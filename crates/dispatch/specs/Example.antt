@@ -1,10 +1,13 @@
--- A worked run: two lanes, feeds (cost, spacing) (1, 2), (4, 6), (4, 6), first-come, never.
+-- Worked runs. The first: two lanes, feeds (cost, spacing) (1, 2), (4, 6), (4, 6), first-come, never.
 use mathlib.Core.Bool.{true, false}
 use mathlib.Core.List.{List, [], _∷_, map}
 use mathlib.Core.Path.{_≡_}
-use Prim.Native.Nat.{ℕ}
+use Prim.Native.Nat.{ℕ, zero, suc}
+use Rattle.std.specs.declared.option.Option.the-variants.{Some, None}
 use Rattle.policy.specs.Built.{first-come, never}
-use Rattle.dispatch.specs.Machine.{Opened, State, Pick, opening, release, advance, picks}
+use Rattle.dispatch.specs.Machine.{Opened, State, Pick, opening, release-refusal, release, advance, picks}
+use Rattle.dispatch.specs.declared.reason.CallRefusal.the-variants.{Waiting}
+use Rattle.dispatch.specs.Told.{told}
 
 abbrev pub house : Opened
 house = record {
@@ -48,3 +51,22 @@ pub record Listing : Type 0 where
   pub fourth : picks house before-4 ≡ ends 2 0 0 ∷ (ends 3 0 0 ∷ [])
   pub fifth : picks house before-5 ≡ ends 1 1 2 ∷ []
   pub latenesses : map (λ r. r .worst) (after-5 .kept) ≡ 2 ∷ (0 ∷ (0 ∷ []))
+
+-- The second run: two lanes, feeds (1, 1), (100, 200), (100, 200), first-come, never. All release at 0, and feed 1 in each tick.
+abbrev pub crowd : Opened
+crowd = record {
+  lanes = 2;
+  feeds = record { cost = 1; spacing = 1 } ∷ (record { cost = 100; spacing = 200 } ∷ (record { cost = 100; spacing = 200 } ∷ []));
+  order = first-come;
+  hold = never;
+}
+
+-- The state in tick t, with the release of feed 1.
+abbrev pub crowded : ℕ → State
+crowded zero = release (release (release (opening crowd) 1 1) 2 100) 3 100
+crowded (suc t) = release (advance crowd (crowded t)) 1 1
+
+-- The release at 16 is accepted, and the one at 17 finds 16 cards waiting.
+pub record Crowding : Type 0 where
+  pub accepted : release-refusal crowd (advance crowd (crowded 15)) 1 1 ≡ None
+  pub refused : release-refusal crowd (advance crowd (crowded 16)) 1 1 ≡ Some (told Waiting)

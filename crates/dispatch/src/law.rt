@@ -1,4 +1,4 @@
-ghost use Rattle.dispatch.specs.Example.{Listing};
+ghost use Rattle.dispatch.specs.Example.{Listing, Crowding};
 ghost use Rattle.dispatch.specs.Law.{RunsOnTime};
 
 /// Every run of the machine is on time, and no step of it has more picks than lanes.
@@ -11,4 +11,10 @@ pub fn runs_on_time()
 /// It does nothing: its contract is the statement.
 pub fn listing_stands()
     ensures { λ _. ⌜ Listing ⌝ }
+{}
+
+/// A worked run in which a feed has 16 cards waiting: one release more is refused.
+/// It does nothing: its contract is the statement.
+pub fn crowding_stands()
+    ensures { λ _. ⌜ Crowding ⌝ }
 {}

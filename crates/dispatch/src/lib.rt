@@ -3,6 +3,7 @@ mod law;
 mod margin;
 mod reason;
 
+pub use law::crowding_stands;
 pub use law::listing_stands;
 pub use law::runs_on_time;
 pub use margin::timely_margin;

@@ -1,5 +1,6 @@
 ghost use mathlib.Core.Path.{_≡_};
 ghost use Rattle.dispatch.specs.Told.{told};
+ghost use Rattle.dispatch.specs.declared.reason.CallRefusal.{CallRefusal as Reason};
 
 /// Why a call on a dispatcher is refused. Each case has a fixed number and a layer.
 #[derive(Clone, Copy, PartialEq, Eq, Debug)]
@@ -19,9 +20,10 @@ pub enum CallRefusal {
 }
 
 impl CallRefusal {
-    /// The number by which this refusal is known: 21 to 26.
+    /// The number by which this refusal is known, 21 to 26. No other refusal of the dispatcher has it.
     pub fn number(&self) -> u8
-        ensures { λ r. ⌜ r ≡ told (now (self .entry)) .number ⌝ }
+        ensures value { λ r. ⌜ r ≡ told (now (self .entry)) .number ⌝ }
+        ensures only { λ r. ⌜ ((other : Reason) → told other .number ≡ r → other ≡ now (self .entry)) ⌝ }
     {
         match self {
             CallRefusal::NoFeed => 21,
