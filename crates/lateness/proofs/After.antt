@@ -1,12 +1,12 @@
 -- After the due: no studied card is released any more, so once a tick is calm all later ones are, and the card under study is drawn until it is finished.
-use Rattle.std.proofs.Common.{◌≡◌, ℕ, zero, suc, ◌+◌, ◌-◌, ◌*◌, ◌<◌, ◌≤◌, Bool, true, false, ◌⊎◌, sym, refl, ap, subst, inl, inr, ⊎_elim, mul-le-mul_right, mul-suc, mul-add, arith}
+use Rattle.std.proofs.Common.{◌≡◌, ℕ, zero, suc, ◌+◌, ◌-◌, ◌*◌, ◌<◌, ◌≤◌, true, ◌⊎◌, sym, refl, ap, subst, inl, inr, ⊎_elim, mul-le-mul_right, mul-suc, mul-add, arith}
 use Rattle.std.proofs.lemmas.Bool.{and_parts, cases_lt, cases_Bool, ltb-true}
-use Rattle.lateness.specs.Sums.{only, count}
-use Rattle.lateness.specs.Schedule.{Schedule, CardLaws, DrawLaws, due, drawn, work, Ready, Finished}
+use Rattle.lateness.specs.Sums.{only}
+use Rattle.lateness.specs.Schedule.{Schedule, CardLaws, DrawLaws, due, drawn, work, Finished}
 use Rattle.lateness.proofs.Sums.{sum_member, count_strict}
 use Rattle.lateness.proofs.Service.{drawn_mono, work_mono, current_below}
 use Rattle.lateness.proofs.Prefix.{studied, goal, studied_own, studied_released}
-use Rattle.lateness.proofs.Ticks.{waits, Calm, Slack, Full, part, potential, waits_ready, ready_waits, missed_full, potential_falls, slack_or_full}
+use Rattle.lateness.proofs.Ticks.{waits, Calm, Slack, part, potential, waits_ready, ready_waits, missed_full, potential_falls, slack_or_full}
 
 module _ (s : Schedule) (cards : CardLaws s) (drawing : DrawLaws s) (l j : ℕ) (is_feed : l < s.feeds) (end : ℕ) (pending : drawn s l end < work s l (suc j)) where
   pending_at : (t : ℕ) → t ≤ end → drawn s l t < work s l (suc j)

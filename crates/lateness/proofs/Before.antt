@@ -1,12 +1,12 @@
 -- Before the due: how much work is left just after a slack tick, and hence at the due.
-use Rattle.std.proofs.Common.{◌≡◌, ℕ, zero, suc, ◌+◌, ◌-◌, ◌*◌, ◌<◌, ◌≤◌, Bool, true, false, cond, not, ◌&&◌, ltb, ◌⊎◌, sym, refl, ap, ◌∙◌, inl, inr, ⊎_elim, mul-le-mul_right, mul_comm, mul-le-mul_left, mul-suc, mul-add, mul_left_comm, arith}
+use Rattle.std.proofs.Common.{◌≡◌, ℕ, zero, suc, ◌+◌, ◌-◌, ◌*◌, ◌<◌, ◌≤◌, Bool, true, false, not, ◌&&◌, ltb, refl, ap, ◌∙◌, ⊎_elim, mul-le-mul_right, mul_comm, mul-le-mul_left, mul-suc, mul-add, mul_left_comm, arith}
 use native.Mathlib.Nat.{le_of_mul-le-mul_left}
 use Rattle.std.proofs.lemmas.Bool.{cases_lt, cases_Bool, both_ways, ltb-true, ltb-false, lt-ltb, and_from}
 use Rattle.lateness.specs.Sums.{sum, only, count}
-use Rattle.lateness.specs.Schedule.{Schedule, CardLaws, DrawLaws, due, drawn, work, Current, Ready, Finished}
+use Rattle.lateness.specs.Schedule.{Schedule, CardLaws, DrawLaws, due, drawn, work, Ready, Finished}
 use Rattle.lateness.specs.Cover.{CoversProgress, CoversWeights, CoversOvertaking, Enough}
 use Rattle.lateness.proofs.Sums.{sum_mono, sum_add, sum_scale, count_none}
-use Rattle.lateness.proofs.Service.{drawn_mono, drawn_at_most, work_mono, work_in_window, current_below, current_first, release_mono, weight_at_most}
+use Rattle.lateness.proofs.Service.{drawn_mono, drawn_at_most, work_mono, work_in_window, current_below, release_mono, weight_at_most}
 use Rattle.lateness.proofs.Prefix.{studied, goal, early, extra, count_at_most, below_count, count_above, early_due, early_studied, goal_split}
 use Rattle.lateness.proofs.Ticks.{studying, outside, outside_before, Slack, keep, part, potential, ready_waits, potential_falls, slack_or_full}
 

@@ -1,9 +1,8 @@
 -- The cards ahead of one card under study, card j of feed l, and that card itself: on each feed they are its first cards.
-use Rattle.std.proofs.Common.{◌≡◌, ℕ, zero, suc, ◌+◌, ◌-◌, ◌*◌, ◌<◌, ◌≤◌, Bool, true, false, cond, not, ◌&&◌, eqb, leb, ◌≢◌, sym, refl, ap, ◌∙◌, ⊎_elim, arith}
-use Rattle.std.proofs.lemmas.Bool.{cases_lt, cases_Bool, cases_eq, eq-eqb, ne_eqb, le-leb, lt-leb, leb-true, leb-false, both_ways, cond-true, cond-false}
-use Rattle.lateness.specs.Sums.{sum, only, count}
+use Rattle.std.proofs.Common.{◌≡◌, ℕ, zero, suc, ◌+◌, ◌<◌, ◌≤◌, Bool, true, cond, not, ◌&&◌, eqb, leb, ◌≢◌, sym, refl, ap, ◌∙◌, ⊎_elim, arith}
+use Rattle.std.proofs.lemmas.Bool.{cases_lt, cases_Bool, cases_eq, eq-eqb, ne_eqb, le-leb, leb-true, leb-false, both_ways, cond-true, cond-false}
+use Rattle.lateness.specs.Sums.{only, count}
 use Rattle.lateness.specs.Schedule.{Schedule, CardLaws, due, work}
-use Rattle.lateness.proofs.Sums.{sum_more}
 use Rattle.lateness.proofs.Service.{work_mono, release_mono, release_least}
 
 -- a test that holds of every number below one that it holds of

@@ -1,8 +1,7 @@
 -- What a feed has drawn, the work of its cards, and its current card.
-use Rattle.std.proofs.Common.{◌≡◌, ℕ, zero, suc, ◌+◌, ◌-◌, ◌*◌, ◌<◌, ◌≤◌, Bool, true, false, sym, refl, ap, ◌∙◌, ⊎_elim, mul_assoc, suc-mul, mul_comm, mul-le-mul_left, le_of_mul-le-mul_right, mul_left_comm, arith}
+use Rattle.std.proofs.Common.{◌≡◌, ℕ, zero, suc, ◌+◌, ◌-◌, ◌*◌, ◌<◌, ◌≤◌, refl, ap, ⊎_elim, suc-mul, mul-le-mul_left, le_of_mul-le-mul_right, mul_left_comm, arith}
 use Rattle.std.proofs.lemmas.Bool.{cases_lt}
-use Rattle.lateness.specs.Sums.{sum, only, count}
-use Rattle.lateness.specs.Schedule.{Schedule, CardLaws, DrawLaws, due, drawn, work, Current, Ready, Finished}
+use Rattle.lateness.specs.Schedule.{Schedule, CardLaws, due, drawn, work, Current}
 use Rattle.lateness.proofs.Sums.{sum_more, only_small}
 
 module _ (s : Schedule) (k : ℕ) where

@@ -1,11 +1,11 @@
 -- Two kinds of tick. In a slack tick every feed that is ready with a studied card draws, and some lane draws no studied card;
 -- in a full tick every lane draws, and each draws a studied card or is held. In a full tick the work that is left falls by the lanes.
-use Rattle.std.proofs.Common.{◌≡◌, ℕ, zero, suc, ◌+◌, ◌-◌, ◌<◌, ◌≤◌, Bool, true, false, cond, not, ◌&&◌, ltb, leb, ◌≢◌, ◌⊎◌, sym, refl, ap, ◌∙◌, ap₂, inl, inr, ⊎_elim, arith}
-use Rattle.std.proofs.lemmas.Bool.{and_parts, and_from, and_cases, cases_lt, cases_Bool, cases_eq, both_ways, not-true, not-false, not_from_false, leb-true, le-leb, ltb-true, ltb-false, lt-ltb, le-ltb, cond-true}
+use Rattle.std.proofs.Common.{◌≡◌, ℕ, zero, suc, ◌+◌, ◌-◌, ◌<◌, ◌≤◌, Bool, true, false, not, ◌&&◌, ltb, leb, ◌⊎◌, sym, refl, ap, ◌∙◌, ap₂, inl, inr, ⊎_elim, arith}
+use Rattle.std.proofs.lemmas.Bool.{and_parts, and_from, and_cases, cases_lt, cases_Bool, cases_eq, both_ways, not-true, not-false, not_from_false, leb-true, le-leb, ltb-true, lt-ltb, le-ltb, cond-true}
 use Rattle.lateness.specs.Sums.{sum, only, count}
-use Rattle.lateness.specs.Schedule.{Schedule, CardLaws, DrawLaws, due, drawn, work, Current, Ready, held_for}
+use Rattle.lateness.specs.Schedule.{Schedule, CardLaws, DrawLaws, drawn, work, Current, Ready, held_for}
 use Rattle.lateness.proofs.Sums.{sum_mono, sum_add, count_mono, count_strict, any, any_sound, any_none}
-use Rattle.lateness.proofs.Service.{drawn_mono, work_mono, current_first}
+use Rattle.lateness.proofs.Service.{work_mono}
 use Rattle.lateness.proofs.Prefix.{studied, goal, studied_own, studied_ahead, ahead_studied}
 
 module _ (s : Schedule) (l j : ℕ) where

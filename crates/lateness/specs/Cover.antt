@@ -1,5 +1,5 @@
 -- Numbers that cover what can be in progress in a schedule, and a margin that is enough for them.
-use Rattle.std.specs.Prelude.{◌≡◌, ℕ, ◌+◌, ◌-◌, ◌*◌, ◌<◌, ◌≤◌, Bool, true, false, not, ◌&&◌, ◌==◌}
+use Rattle.std.specs.Prelude.{◌≡◌, ℕ, ◌+◌, ◌-◌, ◌*◌, ◌<◌, ◌≤◌, Bool, false, not, ◌&&◌, ◌==◌}
 use Rattle.lateness.specs.Sums.{sum, only, count}
 use Rattle.lateness.specs.Schedule.{Schedule}
 

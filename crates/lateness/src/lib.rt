@@ -1,5 +1,7 @@
 //! No card is later than its latest tick: the bound over abstract schedules, which knows nothing of rosters or dispatchers.
 //! There is no code to speak of; each function carries a theorem in its contract.
+#![tactic(auto)]
+
 mod bound;
 mod instances;
 mod witness;

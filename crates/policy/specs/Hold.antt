@@ -1,5 +1,5 @@
 -- The meaning of a hold rule, which questions it can be asked, and the law that every hold rule keeps.
-use Rattle.std.specs.Prelude.{◌≡◌, ℕ, ◌≤◌, Bool, true, false}
+use Rattle.std.specs.Prelude.{◌≡◌, ℕ, ◌≤◌, Bool, false}
 
 -- A hold rule is its reply to each question: whether a card is held, from its feed and the ticks it has drawn; and whether any card is ever held.
 pub record Hold : Type 0 where

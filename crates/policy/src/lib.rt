@@ -1,4 +1,6 @@
 // Which card comes first, and which card keeps its lane: queue orders and hold rules, as two interfaces and the built ones.
+#![tactic(auto)]
+
 mod hold;
 mod order;
 #[cfg(test)]

@@ -1,5 +1,5 @@
 -- Checks one after the other that refuse nothing have all passed.
-use Rattle.std.proofs.Common.{◌≡◌, ℕ, Bool, true, false, Some, None, Option, refl, arith}
+use Rattle.std.proofs.Common.{◌≡◌, ℕ, Bool, true, false, None, Option, refl, arith}
 use Rattle.refusal.specs.Told.{Told, unless, then}
 
 pub check_passed : (a : Bool) (t : Told) → unless a t ≡ None → a ≡ true

@@ -1,5 +1,7 @@
 //! An ordered container over a lent slice: elements are put in one by one and stand in
 //! their order; when the slice is full, the last falls out.
+#![tactic(auto)]
+
 mod container;
 mod ranked;
 #[cfg(test)]
