@@ -1,4 +1,6 @@
 //! The worked cases: rosters and settings as data, what is asked of them, and the answers, printed a line each.
+#![tactic(auto)]
+
 mod ask;
 mod plan;
 mod show;

@@ -1,24 +1,24 @@
 -- A run, carried on after its end, is a schedule that keeps the laws.
-use Rattle.std.proofs.Common.{◌≡◌, ℕ, zero, suc, ◌+◌, ◌-◌, ◌*◌, ◌/◌, ◌<◌, ◌≤◌, Bool, true, false, cond, not, ◌&&◌, eqb, ltb, leb, ◌≢◌, ◌⊎◌, List, [], ◌∷◌, ◌++◌, map, length, get_or, take, sum_by, sym, refl, ap, ◌∙◌, subst, ap₂, inl, inr, ⊎_elim, mul_assoc, mul_comm, arith}
+use Rattle.std.proofs.Common.{◌≡◌, ℕ, zero, suc, ◌+◌, ◌-◌, ◌*◌, ◌/◌, ◌<◌, ◌≤◌, Bool, true, false, cond, ltb, leb, List, [], ◌∷◌, length, take, sum_by, sym, refl, ap, ◌∙◌, subst, inl, inr, ⊎_elim, mul_assoc, mul_comm, arith}
 use Rattle.std.proofs.ByRecursion.{All-get_or}
 use Rattle.std.proofs.lemmas.List.{get_or-map, length-map, take_all}
 use Rattle.std.proofs.lemmas.List.Sums.{sum_by_more}
-use Rattle.std.proofs.lemmas.Bool.{and_parts, and_from, cases_lt, cases_Bool, both_ways, cond-true, cond-false, lt-ltb, le-ltb, ltb-true}
-use Rattle.policy.specs.Order.{Order, AskedFeed, AskedCard, AskedPair}
+use Rattle.std.proofs.lemmas.Bool.{and_parts, cases_lt, cases_Bool, both_ways, cond-true, cond-false, lt-ltb, le-ltb, ltb-true}
+use Rattle.policy.specs.Order.{AskedCard}
 use Rattle.policy.specs.Hold.{Begun}
 use Rattle.roster.specs.declared.feed.Feed.{Feed}
 use Rattle.roster.specs.Feeds.{lawful, hyperperiod_of, weight}
 use Rattle.roster.specs.Margin.{at}
 use Rattle.roster.proofs.Lawful.{Rules, rules_from_lawful, each_passes}
 use Rattle.roster.proofs.Adding.{hyperperiod_positive, spacing_divides}
-use Rattle.lateness.specs.Sums.{sum, only, count}
-use Rattle.lateness.specs.Schedule.{Schedule, CardLaws, DrawLaws, due, Current, Ready, held_for}
+use Rattle.lateness.specs.Sums.{sum, count}
+use Rattle.lateness.specs.Schedule.{Schedule, CardLaws, DrawLaws, Current, Ready, held_for}
 use Rattle.lateness.proofs.Service.{current_first}
 use Rattle.refusal.proofs.Checks.{check_passed, checks_passed}
 use Rattle.dispatch.specs.declared.reason.CallRefusal.TheVariants.{Clock}
 use Rattle.dispatch.specs.Told.{told}
-use Rattle.dispatch.specs.Machine.{Opened, State, Kept, fresh, opening, kept_at, front, ready, holds, goes_ahead, comes_first, chosen, ahead, release, advance}
-use Rattle.dispatch.specs.Run.{Event, released, stepped, refused, Accepted, clock_of, cards_of}
+use Rattle.dispatch.specs.Machine.{Opened, State, fresh, opening, kept_at, front, ready, holds, comes_first, chosen, ahead, release, advance}
+use Rattle.dispatch.specs.Run.{Event, released, stepped, refused, Accepted, clock_of}
 use Rattle.dispatch.specs.Law.{Gives, Lawful}
 use Rattle.dispatch.proofs.Ahead.{ahead_transitive, ahead_point, ahead_own, first_asym, first_any, first_through, first_held_or_ahead}
 use Rattle.dispatch.proofs.Choice.{taken_first, few_taken, all_taken}
@@ -61,7 +61,7 @@ module _ (o : Opened) (law : Lawful o) (es : List Event) (gives : Gives o (openi
   past k = feed.history (gap k) (price k) (arrivals k es) (draws k) (clock_of es)
 
   abbrev pub released_at : ℕ → ℕ → ℕ
-  released_at k j = feed.release-from (gap k) 0 (past k) j
+  released_at k j = feed.release_from (gap k) 0 (past k) j
 
   abbrev pub takes : ℕ → ℕ → ℕ
   takes k j = feed.own_of (past k) j
@@ -171,8 +171,8 @@ module _ (o : Opened) (law : Lawful o) (es : List Event) (gives : Gives o (openi
         (omega (arith, (mark_range k inside i).1, (mark_range k inside j).0, later, ap (released_at k) z))
         (omega (arith, later, ap (released_at k) z, (rules k inside).spaced));
     overtaking = λ k i l j inside inside' other some some' before later.
-        let within = feed.own-within (past k) i some in
-        let within' = feed.own-within (past l) j some' in
+        let within = feed.own_within (past k) i some in
+        let within' = feed.own_within (past l) j some' in
         let card = asked k inside i within in
         let card' = asked l inside' j within' in
         law.overtaking (k + 1) (gap k) (released_at k i) (l + 1) (gap l) (released_at l j)
@@ -204,7 +204,7 @@ module _ (o : Opened) (law : Lawful o) (es : List Event) (gives : Gives o (openi
         let found = front_card h in
         let same = front_is i c h in
         let since : (front (kept_at (st t) k)).release ≡ released_at k i = found.2 ∙ ap (released_at k) same in
-        let within = feed.own-within (past k) i (omega (arith, found.3, ap (takes k) same)) in
+        let within = feed.own_within (past k) i (omega (arith, found.3, ap (takes k) same)) in
         (since, ap (o.order.point (k + 1) (gap k)) since ∙ sym (mark_inside k inside i within))
 
     drew_traced : (kept_at (st t) k).drew ≡ true → (feed.trace (gap k) (price k) (arrivals k es) (draws k) t).drew ≡ true

@@ -1,7 +1,7 @@
 -- Choosing by rank: those before whom fewer than m stand.
-use Rattle.std.proofs.Common.{◌≡◌, ℕ, zero, suc, ◌+◌, ◌<◌, ◌≤◌, Bool, true, false, not, ◌&&◌, ltb, ◌≢◌, ◌⊎◌, sym, refl, ap, ◌∙◌, inl, inr, ⊎_elim, arith}
-use Rattle.std.proofs.lemmas.Bool.{and_parts, and_from, and_right, cases_lt, cases_Bool, cases_eq, both_ways, ltb-true, ltb-false, lt-ltb, le-ltb, not-true, not_from_false}
-use Rattle.lateness.specs.Sums.{sum, only, count}
+use Rattle.std.proofs.Common.{◌≡◌, ℕ, zero, suc, ◌<◌, ◌≤◌, Bool, true, false, not, ◌&&◌, ltb, ◌≢◌, ◌⊎◌, sym, ap, ◌∙◌, inl, inr, ⊎_elim, arith}
+use Rattle.std.proofs.lemmas.Bool.{and_parts, and_from, and_right, cases_lt, cases_Bool, cases_eq, both_ways, ltb-true, ltb-false, lt-ltb, not-true, not_from_false}
+use Rattle.lateness.specs.Sums.{count}
 use Rattle.lateness.proofs.Sums.{only_small, only_mono, count_none, count_mono, count_strict}
 
 -- all of the first set but one are in the second

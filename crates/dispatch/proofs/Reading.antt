@@ -1,9 +1,9 @@
 -- What a reader tells from a run, by the machine's states: the accepted cards, the ticks drawn, and how many picks a step has.
-use Rattle.std.proofs.Common.{◌≡◌, ℕ, zero, suc, ◌+◌, ◌-◌, ◌<◌, ◌≤◌, Bool, true, false, cond, not, ◌&&◌, ◌||◌, eqb, ltb, ◌≢◌, List, [], ◌∷◌, ◌++◌, map, length, sym, refl, ap, ◌∙◌, subst, ap₂, ⊎_elim, append_assoc, arith, length-append}
-use Rattle.std.proofs.lemmas.List.{append-nil, length-map, map-append}
+use Rattle.std.proofs.Common.{◌≡◌, ℕ, zero, suc, ◌+◌, ◌<◌, ◌≤◌, Bool, true, false, cond, not, ◌&&◌, ◌||◌, eqb, ltb, ◌≢◌, List, [], ◌∷◌, ◌++◌, map, length, sym, refl, ap, ◌∙◌, subst, ap₂, ⊎_elim, append_assoc, arith, length-append}
+use Rattle.std.proofs.lemmas.List.{length-map, map-append}
 use Rattle.std.proofs.lemmas.Bool.{and_left, and_right, cases_eq, cases_lt, cond-true, cond-false, eq-eqb, ne_eqb, lt-ltb, le-ltb}
 use Rattle.sorted.specs.Order.{any_before, insert, sort_onto, sort}
-use Rattle.lateness.specs.Sums.{sum, only, count}
+use Rattle.lateness.specs.Sums.{only, count}
 use Rattle.dispatch.specs.Machine.{Opened, State, Pick, kept_at, front, goes_ahead, chosen, those, pick, picks, advance, release}
 use Rattle.dispatch.specs.Run.{Event, released, stepped, refused, Accepted, clock_of, cards_of, picked, drawn_of}
 use Rattle.dispatch.specs.Law.{Gives, FewPicks}

@@ -1,13 +1,13 @@
 -- The states of a run, one for each tick, carried on after its end; and what each feed is given in each tick.
-use Rattle.std.proofs.Common.{◌≡◌, ℕ, zero, suc, ◌+◌, ◌-◌, ◌<◌, ◌≤◌, Bool, true, false, cond, ◌&&◌, eqb, ltb, leb, ◌≢◌, List, [], ◌∷◌, ◌++◌, map, length, get_or, set, Some, None, sym, refl, ap, ◌∙◌, subst, ⊎_elim, arith}
-use Rattle.std.proofs.lemmas.List.{get_or-set_same, get_or-set_other, length-set, length-map, get_or-map}
-use Rattle.std.proofs.lemmas.Bool.{and_parts, cases_eq, cases_lt, eq-eqb, ne_eqb, leb-true, ltb-true, cond-true, cond-false}
+use Rattle.std.proofs.Common.{◌≡◌, ℕ, zero, suc, ◌+◌, ◌-◌, ◌<◌, ◌≤◌, Bool, true, cond, ◌&&◌, eqb, leb, ◌≢◌, List, [], ◌∷◌, length, get_or, set, None, sym, refl, ap, ◌∙◌, subst, ⊎_elim, arith}
+use Rattle.std.proofs.lemmas.List.{get_or-set_same, get_or-set_other, length-set}
+use Rattle.std.proofs.lemmas.Bool.{and_parts, cases_eq, eq-eqb, ne_eqb, leb-true, ltb-true, cond-true, cond-false}
 use Rattle.refusal.proofs.Checks.{check_passed, checks_passed}
 use Rattle.roster.specs.declared.feed.Feed.{Feed}
 use Rattle.roster.specs.Margin.{at}
 use Rattle.dispatch.specs.declared.reason.CallRefusal.TheVariants.{Waiting}
 use Rattle.dispatch.specs.Told.{told}
-use Rattle.dispatch.specs.Machine.{Opened, Card, Kept, State, fresh, opening, kept_at, apart, release_refusal, admit, release, chosen, draw, pass, moved, advance}
+use Rattle.dispatch.specs.Machine.{Opened, Kept, State, fresh, kept_at, apart, release_refusal, admit, release, chosen, draw, pass, moved, advance}
 use Rattle.dispatch.specs.Run.{Event, released, stepped, refused}
 use Rattle.dispatch.specs.Law.{Gives}
 use Rattle.dispatch.proofs.FeedTrace.{admits, Fits}

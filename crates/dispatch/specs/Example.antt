@@ -1,5 +1,5 @@
 -- Worked runs. The first: two lanes, feeds (cost, spacing) (1, 2), (4, 6), (4, 6), first_come, never.
-use Rattle.std.specs.Prelude.{◌≡◌, ℕ, zero, suc, true, false, List, [], ◌∷◌, map, Some, None}
+use Rattle.std.specs.Prelude.{◌≡◌, ℕ, zero, suc, true, false, [], ◌∷◌, map, Some, None}
 use Rattle.policy.specs.Built.{first_come, never}
 use Rattle.dispatch.specs.Machine.{Opened, State, Pick, opening, release_refusal, release, advance, picks}
 use Rattle.dispatch.specs.declared.reason.CallRefusal.TheVariants.{Waiting}

@@ -1,5 +1,5 @@
 -- Runs: lists of calls with their answers, and what a reader can tell from them alone.
-use Rattle.std.specs.Prelude.{ℕ, zero, suc, ◌+◌, ◌≤◌, Bool, true, false, cond, ◌&&◌, ◌||◌, List, [], ◌∷◌, ◌==◌}
+use Rattle.std.specs.Prelude.{ℕ, zero, suc, ◌+◌, Bool, false, cond, ◌&&◌, ◌||◌, List, [], ◌∷◌, ◌==◌}
 use Rattle.lateness.specs.Sums.{only}
 use Rattle.dispatch.specs.Machine.{Pick}
 

@@ -1,4 +1,6 @@
 //! The dispatcher's machine, and the law over every run of it.
+#![tactic(auto)]
+
 mod law;
 mod margin;
 mod reason;

@@ -388,7 +388,7 @@ module _ (spacing cost : ℕ) (points : ℕ → ℕ) (arrivals : ℕ → List �
     pub front_current : (t : ℕ) → 0 < length (trace t).waiting → (j : ℕ) × (work N j ≤ served t) × (served t < work N (suc j)) × (release N j ≤ t) × ((front (trace t)).release ≡ release N j) × (1 ≤ own N j) × (own N j ≡ (front (trace t)).cost)
     front_current t some =
         let f = front_at t some in
-        (f.place, omega (arith, f.paid), omega (arith, f.paid, f.own_is, f.unfinished), omega (arith, f.release-is, f.released), f.release-is, omega (arith, f.own_is, f.unfinished), f.own_is)
+        (f.place, omega (arith, f.paid), omega (arith, f.paid, f.own_is, f.unfinished), omega (arith, f.release_is, f.released), f.release_is, omega (arith, f.own_is, f.unfinished), f.own_is)
 
     some_waits : (t j : ℕ) (w : List Card) (drew : Bool) → Tracks cost (history t) (served t) w drew → work N j ≤ served t → served t < work N (suc j) → release N j ≤ t → 0 < length w
     some_waits t j (c ∷ cs) drew i low high now = omega arith
@@ -425,7 +425,7 @@ module _ (spacing cost : ℕ) (points : ℕ → ℕ) (arrivals : ℕ → List �
 
     -- the first waiting card is not finished, and its cost is within the feed's
     pub front_drawn : (t : ℕ) → 0 < length (trace t).waiting → ((front (trace t)).drawn < (front (trace t)).cost) × ((front (trace t)).cost ≤ cost)
-    front_drawn t some = let f = front_at t some in (f.unfinished, f.fits-cost)
+    front_drawn t some = let f = front_at t some in (f.unfinished, f.fits_cost)
 
     -- the card that drew in the last tick was current in it
     pub drew_same : (t j : ℕ) → (trace (suc t)).drew ≡ true → work N j ≤ served (suc t) → served (suc t) < work N (suc j) → (work N j ≤ served t) × (served t < work N (suc j))
@@ -472,7 +472,7 @@ module _ (spacing cost : ℕ) (points : ℕ → ℕ) (arrivals : ℕ → List �
         (λ here.
         let f = front_at T (works T yes) in
         let same : f.place ≡ j = one_step (own N) f.place j (served T) (omega (arith, f.paid)) (omega (arith, f.paid, f.own_is, f.unfinished)) here (omega arith) in
-        let is-picked = and_from (draws T) (eqb (front (trace T)).release (release N j)) yes (eq-eqb (front (trace T)).release (release N j) (f.release-is ∙ ap (release N) same)) in
+        let is-picked = and_from (draws T) (eqb (front (trace T)).release (release N j)) yes (eq-eqb (front (trace T)).release (release N j) (f.release_is ∙ ap (release N) same)) in
         omega (arith, served_yes T yes, ap (λ b. only b 1) is-picked, picked_some j T (served T) (omega arith) (omega arith)))
         (cases_lt (served T) (work N j)))
         (λ old. omega (arith, picked_some j T m old high))

@@ -1,10 +1,9 @@
 -- What a reader tells from a run, by the machine's states: the accepted cards, the ticks drawn, and how many picks a step has.
-use Rattle.std.proofs.Common.{◌≡◌, ℕ, zero, suc, ◌+◌, ◌-◌, ◌<◌, ◌≤◌, Bool, true, false, cond, not, ◌&&◌, ◌||◌, eqb, ltb, ◌≢◌, ◌⊎◌, List, [], ◌∷◌, ◌++◌, map, length, sym, refl, ap, ◌∙◌, subst, ap₂, inl, inr, ⊎_elim, append_assoc, arith, length-append}
-use Rattle.std.proofs.lemmas.List.{append-nil, length-map, map-append}
-use Rattle.std.proofs.lemmas.Bool.{and_left, and_right, cases_eq, cases_lt, cond-true, cond-false, eq-eqb, ne_eqb, lt-ltb, le-ltb}
+use Rattle.std.proofs.Common.{◌≡◌, ℕ, zero, suc, ◌+◌, ◌<◌, ◌≤◌, Bool, true, false, cond, not, ◌&&◌, ◌||◌, eqb, ◌≢◌, ◌⊎◌, List, [], ◌∷◌, ◌++◌, map, length, sym, refl, ap, ◌∙◌, ap₂, inl, inr, ⊎_elim, append_assoc, arith, length-append}
+use Rattle.std.proofs.lemmas.List.{length-map}
+use Rattle.std.proofs.lemmas.Bool.{and_left, cases_eq, cond-true, cond-false, eq-eqb, ne_eqb}
 use Rattle.sorted.specs.Order.{any_before, insert, sort_onto, sort}
-use Rattle.lateness.specs.Sums.{sum, only, count}
-use Rattle.machine.specs.declared.pick.Pick.{Pick}
+use Rattle.lateness.specs.Sums.{only, count}
 use Rattle.machine.specs.Machine.{Opened, State, kept_at, front, ready, goes_ahead, comes_first, chosen, those, pick, picks, advance, release}
 use Rattle.machine.specs.Run.{Event, released, stepped, refused, Accepted, clock_of, cards_of, picked, drawn_of}
 use Rattle.machine.specs.Law.{Gives, FewPicks}

@@ -1,5 +1,5 @@
 -- Every run is on time: the bound, read from the run.
-use Rattle.std.proofs.Common.{◌≡◌, ℕ, zero, suc, ◌+◌, ◌-◌, ◌*◌, ◌<◌, ◌≤◌, Bool, true, false, cond, not, ◌&&◌, eqb, List, [], ◌∷◌, ◌++◌, map, length, get_or, take, sym, refl, ap, ◌∙◌, subst, ap₂, ⊎_elim, arith}
+use Rattle.std.proofs.Common.{◌≡◌, ℕ, zero, suc, ◌+◌, ◌-◌, ◌*◌, ◌<◌, ◌≤◌, true, ◌&&◌, eqb, List, [], ◌∷◌, ◌++◌, map, length, get_or, take, sym, refl, ap, ◌∙◌, subst, ap₂, ⊎_elim, arith}
 use Rattle.std.proofs.lemmas.List.{map_more, take_all}
 use Rattle.std.proofs.lemmas.Bool.{cases_Bool, cond-true, cond-false}
 use Rattle.sorted.specs.Largest.{largest}
@@ -11,7 +11,7 @@ use Rattle.roster.specs.Roster.{feeds}
 use Rattle.roster.proofs.Standing.{feeds_count}
 use Rattle.roster.specs.Feeds.{hyperperiod_of, weight, weights}
 use Rattle.roster.specs.Margin.{at, in_progress, heaviest, sum_to, overtaking_cost, overtaking, Margin}
-use Rattle.lateness.specs.Sums.{sum, only, count}
+use Rattle.lateness.specs.Sums.{sum, count}
 use Rattle.lateness.specs.Cover.{CoversProgress, CoversWeights, CoversOvertaking}
 use Rattle.lateness.specs.Instances.{listed}
 use Rattle.lateness.proofs.Covered.{weights_covered_lem, unheld_covered_lem, held_covered_lem}
@@ -19,7 +19,7 @@ use Rattle.lateness.proofs.InTime.{never_later_lem}
 use Rattle.lateness.proofs.Sums.{count_mono}
 use Rattle.lateness.proofs.Service.{work_mono}
 use Rattle.machine.specs.Machine.{Opened, opening, kept_at, front, chosen}
-use Rattle.machine.specs.Run.{Event, Accepted, clock_of, cards_of, drawn_of}
+use Rattle.machine.specs.Run.{Event, Accepted, clock_of, cards_of}
 use Rattle.machine.specs.Law.{Gives, Lawful, card, latest, OnTime, Timely, IsMargin, RunsOnTime, opened}
 use Rattle.machine.proofs.FeedTrace as feed
 use Rattle.machine.proofs.Reading as reading
@@ -63,14 +63,14 @@ module _ (o : Opened) (law : Lawful o) (es : List Event) (gives : Gives o (openi
   history_is k (suc n) = let z : suc n ≡ 0 + suc n = omega arith in ap₂ (λ xs t. xs ++ reading.stamped t (arrivals k es (suc n))) (history_is k n) z
 
   past_is : (k : ℕ) → past o law es gives k ≡ cards_of (k + 1) 0 es
-  past_is k = history_is k (clock_of es) ∙ reading.history-cards k es
+  past_is k = history_is k (clock_of es) ∙ reading.history_cards k es
 
   own_get_or : (xs : List Accepted) (i : ℕ) → i < length xs → feed.own_of xs i ≡ (get_or xs i record { release = 0; cost = 0 }).cost
   own_get_or [] i h = absurd (omega arith)
   own_get_or (a ∷ xs) zero h = refl
   own_get_or (a ∷ xs) (suc i) h = own_get_or xs i (omega arith)
 
-  release_get_or : (p b : ℕ) (xs : List Accepted) (i : ℕ) → i < length xs → feed.release-from p b xs i ≡ (get_or xs i record { release = 0; cost = 0 }).release
+  release_get_or : (p b : ℕ) (xs : List Accepted) (i : ℕ) → i < length xs → feed.release_from p b xs i ≡ (get_or xs i record { release = 0; cost = 0 }).release
   release_get_or p b [] i h = absurd (omega arith)
   release_get_or p b (a ∷ xs) zero h = refl
   release_get_or p b (a ∷ xs) (suc i) h = release_get_or p (a.release + p) xs i (omega arith)
@@ -79,7 +79,7 @@ module _ (o : Opened) (law : Lawful o) (es : List Event) (gives : Gives o (openi
   card_own k i h = ap (λ xs. feed.own_of xs i) (past_is k) ∙ own_get_or (cards_of (k + 1) 0 es) i h
 
   card_release : (k i : ℕ) → i < length (cards_of (k + 1) 0 es) → released_at o law es gives k i ≡ (card es k i).release
-  card_release k i h = ap (λ xs. feed.release-from (gap o law es gives k) 0 xs i) (past_is k) ∙ release_get_or (gap o law es gives k) 0 (cards_of (k + 1) 0 es) i h
+  card_release k i h = ap (λ xs. feed.release_from (gap o law es gives k) 0 xs i) (past_is k) ∙ release_get_or (gap o law es gives k) 0 (cards_of (k + 1) 0 es) i h
 
   pub on_time : (x : ℕ) → Margin o.lanes o.feeds o.order o.hold x → OnTime o x es
   on_time x margin k j inside is-card by-clock i earlier =
@@ -91,13 +91,13 @@ module _ (o : Opened) (law : Lawful o) (es : List Event) (gives : Gives o (openi
       let served : sum (suc i) (takes o law es gives k) ≤ count T (draws o law es gives k) =
       omega (arith, done, ap (λ t. count t (draws o law es gives k)) same, work_mono s k (suc i) (suc j) (omega arith)) in
       let enough = feed.picked_enough (gap o law es gives k) (price o law es gives k) (points o k) (arrivals k es) (draws o law es gives k) (fits o law es gives k inside) (works o law es gives k inside) (clock_of es) (reading.quiet k es) i T served in
-      let seen : (t : ℕ) → t < T → feed.picks-card (gap o law es gives k) (price o law es gives k) (points o k) (arrivals k es) (draws o law es gives k) (clock_of es) i t ≡ true → (chosen o (st o law es gives t) k && eqb (front (kept_at (st o law es gives t) k)).release (card es k i).release) ≡ true =
+      let seen : (t : ℕ) → t < T → feed.picks_card (gap o law es gives k) (price o law es gives k) (points o k) (arrivals k es) (draws o law es gives k) (clock_of es) i t ≡ true → (chosen o (st o law es gives t) k && eqb (front (kept_at (st o law es gives t) k)).release (card es k i).release) ≡ true =
       λ t b h. subst (λ r. (chosen o (st o law es gives t) k && eqb r (card es k i).release) ≡ true) (ap (λ r. (front r).release) (trace_is o law es gives k inside t))
       (subst (λ r. (draws o law es gives k t && eqb (front (feed.trace (gap o law es gives k) (price o law es gives k) (points o k) (arrivals k es) (draws o law es gives k) t)).release r) ≡ true) (card_release k i is-early) h) in
-      omega (arith, enough, card_own k i is-early, reading.drawn-counted o (opening o) es k (card es k i).release T gives inside by-clock, count_mono T _ _ seen)
+      omega (arith, enough, card_own k i is-early, reading.drawn_counted o (opening o) es k (card es k i).release T gives inside by-clock, count_mono T _ _ seen)
 
 pub runs_on_time_lem : RunsOnTime
-runs_on_time_lem o law x margin es gives = (on_time o law es gives x margin, reading.few-picks o (opening o) es gives)
+runs_on_time_lem o law x margin es gives = (on_time o law es gives x margin, reading.few_picks o (opening o) es gives)
 
 -- every roster that exists is lawful, and so are orders and hold rules that keep their laws
 roster_lawful : (r : Roster) (order : Order) (hold : Hold) → Within order → Overtaking order → Unheld hold → Lawful (opened r order hold)

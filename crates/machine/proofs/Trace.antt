@@ -1,13 +1,13 @@
 -- The states of a run, one for each tick, carried on after its end; and what each feed is given in each tick.
-use Rattle.std.proofs.Common.{◌≡◌, ℕ, zero, suc, ◌+◌, ◌-◌, ◌<◌, ◌≤◌, Bool, true, false, cond, ◌&&◌, eqb, ltb, leb, ◌≢◌, List, [], ◌∷◌, ◌++◌, map, length, get_or, set, Some, None, sym, refl, ap, ◌∙◌, subst, ap₂, ⊎_elim, arith}
-use Rattle.std.proofs.lemmas.List.{get_or-set_same, get_or-set_other, length-set, length-map, get_or-map}
-use Rattle.std.proofs.lemmas.Bool.{and_parts, cases_eq, cases_lt, eq-eqb, ne_eqb, leb-true, ltb-true, cond-true, cond-false}
+use Rattle.std.proofs.Common.{◌≡◌, ℕ, zero, suc, ◌+◌, ◌-◌, ◌<◌, ◌≤◌, Bool, true, cond, ◌&&◌, eqb, leb, ◌≢◌, List, [], ◌∷◌, length, get_or, set, None, sym, refl, ap, ◌∙◌, subst, ap₂, ⊎_elim, arith}
+use Rattle.std.proofs.lemmas.List.{get_or-set_same, get_or-set_other, length-set}
+use Rattle.std.proofs.lemmas.Bool.{and_parts, cases_eq, eq-eqb, ne_eqb, leb-true, ltb-true, cond-true, cond-false}
 use Rattle.refusal.proofs.Checks.{check_passed, checks_passed}
 use Rattle.roster.specs.declared.feed.Feed.{Feed}
 use Rattle.roster.specs.Margin.{at}
 use Rattle.machine.specs.declared.reason.CallRefusal.TheVariants.{Waiting}
 use Rattle.machine.specs.Told.{told}
-use Rattle.machine.specs.Machine.{Opened, Kept, State, fresh, opening, kept_at, is_feed, apart, release_refusal, admit, release, chosen, stirred, moved, advance}
+use Rattle.machine.specs.Machine.{Opened, Kept, State, fresh, kept_at, is_feed, apart, release_refusal, admit, release, chosen, stirred, moved, advance}
 use Rattle.machine.specs.Run.{Event, released, stepped, refused}
 use Rattle.machine.specs.Law.{Gives}
 use Rattle.machine.proofs.FeedTrace.{admits, Fits}

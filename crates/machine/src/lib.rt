@@ -1,4 +1,6 @@
 //! The dispatcher's machine as definitions, and the law over every run of it.
+#![tactic(auto)]
+
 mod call;
 mod card;
 mod law;

@@ -10,7 +10,7 @@ use Rattle.refusal.specs.declared.reason.Refusal.TheVariants.{Hyperperiod, Overl
 use Rattle.roster.specs.declared.feed.Feed.{Feed}
 use Rattle.roster.specs.Multiple.{lcm, AllPositive}
 use Rattle.roster.specs.Feeds.{lawful, all_lawful, hyperperiod_of, weight, weights, add_refusal}
-use Rattle.roster.proofs.Lawful.{Rules, rules_from_lawful, each_passes}
+use Rattle.roster.proofs.Lawful.{rules_from_lawful, each_passes}
 use Rattle.roster.proofs.Multiples.{lcm_push, lcm_all_positive, lcm_all_times}
 
 abbrev none : Feed

@@ -1,5 +1,5 @@
 -- The least number that is enough for some feeds, one feed after the other.
-use Rattle.std.proofs.Common.{◌≡◌, ℕ, ◌+◌, ◌*◌, ◌<◌, ◌≤◌, ◌⊎◌, List, ap, ⊎_elim, mul-le-mul_right, arith, below_none, below_more}
+use Rattle.std.proofs.Common.{◌≡◌, ℕ, ◌+◌, ◌*◌, ◌≤◌, ◌⊎◌, List, ap, ⊎_elim, mul-le-mul_right, arith, below_none, below_more}
 use Rattle.policy.specs.Order.{Order}
 use Rattle.roster.specs.declared.feed.Feed.{Feed}
 use Rattle.roster.specs.Margin.{at, overtaking, Least}

@@ -1,5 +1,5 @@
 -- Division rounded up gives the least number that is enough.
-use Rattle.std.proofs.Common.{ℕ, ◌+◌, ◌-◌, ◌*◌, ◌/◌, ◌<◌, ◌≤◌, mul_comm, div-lt_iff_lt-mul, add-mul, mul-le-mul_left, one-mul, arith}
+use Rattle.std.proofs.Common.{ℕ, ◌+◌, ◌-◌, ◌*◌, ◌/◌, ◌<◌, ◌≤◌, mul_comm, div-lt_iff_lt-mul, add-mul, mul-le-mul_left, arith}
 use native.Mathlib.Nat.{mul-sub}
 
 module _ (l needed own rate : ℕ) (some : 0 < rate) where

@@ -1,5 +1,5 @@
 -- The rules of a roster's feeds: which feeds are lawful, their hyperperiod, their weights, and when one more is refused.
-use Rattle.std.specs.Prelude.{ℕ, ◌+◌, ◌*◌, ◌/◌, Bool, ◌&&◌, List, [], ◌∷◌, ◌++◌, map, length, sum_by, Option, nat_le, nat_lt}
+use Rattle.std.specs.Prelude.{ℕ, ◌*◌, ◌/◌, Bool, ◌&&◌, List, [], ◌∷◌, ◌++◌, map, length, sum_by, Option, nat_le, nat_lt}
 use Rattle.std.specs.List.{list_all}
 use Rattle.refusal.specs.Told.{Told, told, unless, then}
 use Rattle.refusal.specs.declared.reason.Refusal.{Refusal}

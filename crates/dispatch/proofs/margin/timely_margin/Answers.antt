@@ -1,4 +1,4 @@
-use Rattle.std.proofs.Common.{◌≡◌, ◌*◌, ◌≤◌, subst, arith}
+use Rattle.std.proofs.Common.{◌*◌, ◌≤◌, subst, arith}
 use Rattle.policy.specs.Order.{Order, Within, Overtaking}
 use Rattle.policy.specs.Hold.{Hold, Unheld}
 use Rattle.roster.specs.declared.table.Roster.{Roster}

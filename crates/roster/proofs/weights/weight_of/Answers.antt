@@ -1,4 +1,4 @@
-use Rattle.std.proofs.Common.{◌≡◌, ◌*◌, ◌/◌, ◌≤◌, sym, subst, arith, rules}
+use Rattle.std.proofs.Common.{◌≡◌, ◌*◌, ◌/◌, arith}
 use Rattle.roster.specs.Feeds.{weight}
 use Rattle.roster.proofs.Lawful.{rules_from_lawful, weight_at_most}
 use Rattle.roster.proofs.weights.weight_of.Goals as goal

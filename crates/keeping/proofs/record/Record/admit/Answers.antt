@@ -7,8 +7,8 @@ use Rattle.keeping.specs.Stage.{is_idle}
 use Rattle.keeping.proofs.Records.{released_busy, begun_push}
 use Rattle.keeping.proofs.record.Record.admit.Goals as goal
 
-pub invariant-of-self : goal.invariant-of-self
-invariant-of-self c =
+pub invariant_of-self : goal.invariant_of-self
+invariant_of-self c =
     let s = c.args.self.now in
     let used = length-take-le s.queue.len s.queue.places (omega arith) in
     let busy = ap is_idle c.after-self.ensures ∙ (released_busy s.stage).0 in

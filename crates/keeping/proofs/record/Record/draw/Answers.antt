@@ -7,14 +7,14 @@ use Rattle.keeping.specs.Stage.{is_idle, is_drawing}
 use Rattle.keeping.proofs.Records.{first_of, front_is, chosen_draws, finished_rests, first_short, draw_last, draw_on, on_begun}
 use Rattle.keeping.proofs.record.Record.draw.Goals as goal
 
-pub overflow-add-card : goal.overflow-add-card
-overflow-add-card c =
+pub overflow_add-card : goal.overflow_add-card
+overflow_add-card c =
     let s = c.args.self.now in
     let short = first_short (cards_in s.queue) (first_of s) (front_is s (omega arith)) s.unfinished in
     omega (arith, short.0, short.1)
 
-pub invariant-of-self-else-ends : goal.invariant-of-self-else-ends
-invariant-of-self-else-ends c =
+pub invariant_of-self-else-ends : goal.invariant_of-self-else-ends
+invariant_of-self-else-ends c =
     let s = c.args.self.now in
     let some : 0 < s.queue.len = omega arith in
     let full : eqb s.queue.len 0 ≡ false = ne_eqb _ _ (λ z. omega (arith, z)) in

@@ -17,32 +17,32 @@ hyperperiod_is s f spacing l is-l is-spacing = is-l ∙ ap₂ lcm s.common is-sp
 room : (s : Roster) → s.count < 32 → length (feeds s) < 32
 room s few = omega (arith, feeds_count s)
 
-pub common-multiple-hyperperiod-requires : goal.common-multiple-hyperperiod-requires
-common-multiple-hyperperiod-requires c =
+pub common_multiple-hyperperiod-requires : goal.common_multiple-hyperperiod-requires
+common_multiple-hyperperiod-requires c =
     let s = c.args.self.now in
-    let rules = rules_from_lawful c.args.feed (sym c.if-not-is-lawful.ensures) in
+    let rules = rules_from_lawful c.args.feed (sym c.if-not-is_lawful.ensures) in
     (omega (arith, hyperperiod_positive (feeds s) s.lawful, s.common), (s.short, (omega arith, omega arith)))
 
 pub returns-then-hyperperiod-gt-LONGEST : goal.returns-then-hyperperiod-gt-LONGEST
 returns-then-hyperperiod-gt-LONGEST c =
     let s = c.args.self.now in
     let f = c.args.feed in
-    let l = hyperperiod_is s f _ _ c.common-multiple-hyperperiod.ensures c.from.ensures in
+    let l = hyperperiod_is s f _ _ c.common_multiple-hyperperiod.ensures c.from.ensures in
     let long : 10000000 < hyperperiod_of (feeds s ++ f ∷ []) = rw (sym l) c.if-hyperperiod-gt-LONGEST.true in
-    record { answer = refused_long s.lanes (feeds s) f (room s c.if-self-ge-MOST-FEEDS.false) (sym c.if-not-is-lawful.ensures) long; made = tt }
+    record { answer = refused_long s.lanes (feeds s) f (room s c.if-self-ge-MOST_FEEDS.false) (sym c.if-not-is_lawful.ensures) long; made = tt }
 
 pub returns-then-weights-from : goal.returns-then-weights-from
 returns-then-weights-from c =
     let s = c.args.self.now in
-    let l = hyperperiod_is s c.args.feed _ _ c.common-multiple-hyperperiod.ensures c.from.ensures in
-    let total : c.total-weight.result ≡ weights c.common-multiple-hyperperiod.result (feeds s) = search rules in
-    let heavy = lt-leb _ (s.lanes * c.common-multiple-hyperperiod.result) (rw (sym c.from-2.ensures) c.if-weights-from.true) in
-    record { answer = sym (weighed s.lanes (feeds s) c.args.feed _ _ _ _ (room s c.if-self-ge-MOST-FEEDS.false) (sym c.if-not-is-lawful.ensures) l c.if-hyperperiod-gt-LONGEST.false total c.weight-of.ensures.0 heavy); made = tt }
+    let l = hyperperiod_is s c.args.feed _ _ c.common_multiple-hyperperiod.ensures c.from.ensures in
+    let total : c.total_weight.result ≡ weights c.common_multiple-hyperperiod.result (feeds s) = search rules in
+    let heavy = lt-leb _ (s.lanes * c.common_multiple-hyperperiod.result) (rw (sym c.from-2.ensures) c.if-weights-from.true) in
+    record { answer = sym (weighed s.lanes (feeds s) c.args.feed _ _ _ _ (room s c.if-self-ge-MOST_FEEDS.false) (sym c.if-not-is_lawful.ensures) l c.if-hyperperiod-gt-LONGEST.false total c.weight_of.ensures.0 heavy); made = tt }
 
 pub returns : goal.returns
 returns c =
     let s = c.args.self.now in
-    let l = hyperperiod_is s c.args.feed _ _ c.common-multiple-hyperperiod.ensures c.from.ensures in
-    let total : c.total-weight.result ≡ weights c.common-multiple-hyperperiod.result (feeds s) = search rules in
-    let light = le-leb _ (s.lanes * c.common-multiple-hyperperiod.result) (rw (sym c.from-2.ensures) c.if-weights-from.false) in
-    record { answer = sym (weighed s.lanes (feeds s) c.args.feed _ _ _ _ (room s c.if-self-ge-MOST-FEEDS.false) (sym c.if-not-is-lawful.ensures) l c.if-hyperperiod-gt-LONGEST.false total c.weight-of.ensures.0 light); made = l }
+    let l = hyperperiod_is s c.args.feed _ _ c.common_multiple-hyperperiod.ensures c.from.ensures in
+    let total : c.total_weight.result ≡ weights c.common_multiple-hyperperiod.result (feeds s) = search rules in
+    let light = le-leb _ (s.lanes * c.common_multiple-hyperperiod.result) (rw (sym c.from-2.ensures) c.if-weights-from.false) in
+    record { answer = sym (weighed s.lanes (feeds s) c.args.feed _ _ _ _ (room s c.if-self-ge-MOST_FEEDS.false) (sym c.if-not-is_lawful.ensures) l c.if-hyperperiod-gt-LONGEST.false total c.weight_of.ensures.0 light); made = l }

@@ -1,4 +1,4 @@
-use Rattle.std.proofs.Common.{map, sym}
+use Rattle.std.proofs.Common.{map}
 use Rattle.roster.specs.Roster.{feeds}
 use Rattle.roster.proofs.Adding.{spacings_positive}
 use Rattle.roster.proofs.Multiples.{lcm_least_all}
