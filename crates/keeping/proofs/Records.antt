@@ -1,5 +1,5 @@
 -- What a feed's record keeps from one turn to the next.
-use Rattle.std.proofs.Common.{◌≡◌, ℕ, zero, suc, ◌+◌, ◌<◌, ◌≤◌, max, true, false, cond, ◌&&◌, eqb, ltb, List, [], ◌∷◌, ◌++◌, length, get_or, drop, Some, None, sym, refl, ap, ◌∙◌, ⊎_elim, arith}
+use Rattle.std.proofs.Common.{◌≡◌, ℕ, zero, suc, ◌+◌, ◌<◌, ◌≤◌, max, true, false, cond, eqb, ltb, List, [], ◌∷◌, ◌++◌, length, get_or, drop, Some, None, sym, refl, ap, ◌∙◌, ⊎_elim, arith}
 use Rattle.std.specs.List.{list_all}
 use Rattle.std.proofs.ByRecursion.{All-push}
 use Rattle.std.proofs.lemmas.Bool.{and_parts, and_from, cond-true, cond-false, lt-ltb, le-leb, ltb-true, leb-true, leb-false, ne_eqb, eqb-false, cases_lt}
@@ -7,7 +7,7 @@ use Rattle.roster.proofs.Lawful.{each_passes, all_from_each}
 use Rattle.machine.specs.declared.card.Card.{Card}
 use Rattle.keeping.specs.declared.stage.Stage.{Stage}
 use Rattle.keeping.specs.declared.stage.Stage.TheVariants.{Idle, Waiting, Drawing}
-use Rattle.keeping.specs.declared.stage.Turn.TheVariants.{Released, Chosen, Preempted, Finished}
+use Rattle.keeping.specs.declared.stage.Turn.TheVariants.{Released, Chosen, Finished}
 use Rattle.machine.specs.Machine.{Kept, first_card, ends, lateness, draw}
 use Rattle.keeping.specs.declared.record.Record.{Record}
 use Rattle.keeping.specs.Queue.{cards_in, begun}

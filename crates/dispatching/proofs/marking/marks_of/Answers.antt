@@ -7,8 +7,8 @@ use Rattle.dispatching.proofs.marking.marks_of.Goals as goal
 pub loop-pick-init : goal.loop-pick-init
 loop-pick-init c = (refl, λ k _. unmarked 32 k)
 
-pub overflow-sub-marks : goal.overflow-sub-marks
-overflow-sub-marks c = (numbered c.args.picks.now c.loop-pick.pick-index c.loop-pick-test.true c.requires).0
+pub overflow_sub-marks : goal.overflow_sub-marks
+overflow_sub-marks c = (numbered c.args.picks.now c.loop-pick.pick-index c.loop-pick-test.true c.requires).0
 
 pub bounds-marks-pick : goal.bounds-marks-pick
 bounds-marks-pick c = let n = numbered c.args.picks.now c.loop-pick.pick-index c.loop-pick-test.true c.requires in omega (arith, n.0, n.1)

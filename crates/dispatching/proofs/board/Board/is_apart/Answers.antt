@@ -8,4 +8,4 @@ pub returns : goal.returns
 returns c =
     let b = c.args.self.now in
     let spacing = ap (λ fs. (at fs c.args.at).spacing) c.feeds.ensures in
-    c.is-apart.ensures ∙ ap₂ (λ r n. apart r.last n b.clock) (sym (board_read b c.args.at c.index-self-at.result c.requires.0 c.requires.1)) spacing
+    c.is_apart.ensures ∙ ap₂ (λ r n. apart r.last n b.clock) (sym (board_read b c.args.at c.index-self-at.result c.requires.0 c.requires.1)) spacing

@@ -8,9 +8,9 @@ use Rattle.dispatching.proofs.dispatcher.Dispatcher.open.Goals as goal
 
 pub returns : goal.returns
 returns g c =
-    let d = c.at-clock.result in
+    let d = c.at_clock.result in
     let o = opened_with g.O.QueueOrder.meaning g.H.HoldRule.meaning d in
-    let made = c.at-clock.ensures in
+    let made = c.at_clock.ensures in
     let fresh-state : state d ≡ opening o = made.state ∙ ap (λ r. record { clock = 0; kept = map (λ _. fresh) (feeds r) }) (sym made.taken.0) in
     record {
       taken = made.taken;

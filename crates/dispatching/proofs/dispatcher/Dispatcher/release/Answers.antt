@@ -21,8 +21,8 @@ admit-requires g c =
     let d = c.args.self.now in
     let n = c.args.feed in
     let o = opened_with g.O.QueueOrder.meaning g.H.HoldRule.meaning d in
-    let allowed : Allowed o (state d) n c.args.cost = allowed_from_none o (state d) n c.args.cost (sym c.in-ok-at.ensures.answer) in
-    let is : c.in-ok-at.at ≡ n - 1 = c.in-ok-at.ensures.made in
+    let allowed : Allowed o (state d) n c.args.cost = allowed_from_none o (state d) n c.args.cost (sym c.in_ok-at.ensures.answer) in
+    let is : c.in_ok-at.at ≡ n - 1 = c.in_ok-at.ensures.made in
     let rules = feed_rules d.board.roster (n - 1) (omega (arith, allowed.low, allowed.high)) in
     (omega (arith, allowed.low, allowed.high), (d.sized, (subst (λ k. length (kept_at (state d) k).waiting < 16) (sym is) allowed.room, (allowed.some, omega (arith, allowed.fits, rules.fits, rules.short)))))
 
@@ -32,14 +32,14 @@ returns g c =
     let n = c.args.feed in
     let o = opened_with g.O.QueueOrder.meaning g.H.HoldRule.meaning d in
     let s = state d in
-    let allowed : Allowed o s n c.args.cost = allowed_from_none o s n c.args.cost (sym c.in-ok-at.ensures.answer) in
-    let is : c.in-ok-at.at ≡ n - 1 = c.in-ok-at.ensures.made in
+    let allowed : Allowed o s n c.args.cost = allowed_from_none o s n c.args.cost (sym c.in_ok-at.ensures.answer) in
+    let is : c.in_ok-at.at ≡ n - 1 = c.in_ok-at.ensures.made in
     let spacing = ap₂ (λ fs k. (at fs k).spacing) c.feeds.ensures is in
     let point = c.point-point.ensures (asked d.board.roster n d.board.clock _ allowed.low allowed.high d.timed spacing) ∙ ap (λ p. o.order.point n p d.board.clock) spacing in
     let kept = c.admit.ensures.kept ∙ ap₂ (λ k p. set s.kept k (admit s.clock c.args.cost p (kept_at s k))) is point in
     record {
-      answer = c.in-ok-at.ensures.answer;
+      answer = c.in_ok-at.ensures.answer;
       released = λ _. ap₂ (λ t ks. record { clock = t; kept = ks }) c.admit.ensures.clock kept;
       same_parts = (c.admit.ensures.roster, refl, refl);
-      unchanged-on-refusal = search rules;
+      unchanged_on_refusal = search rules;
     }

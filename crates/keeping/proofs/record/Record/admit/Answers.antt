@@ -14,4 +14,9 @@ invariant_of-self c =
     let busy = ap is_idle c.after-self.ensures ∙ (released_busy s.stage).0 in
     let some : eqb c.push.new.self.len 0 ≡ false = ne_eqb _ _ (λ z. omega (arith, z, c.push.ensures.len)) in
     let more = begun_push (cards_in s.queue) record { release = c.args.release; cost = c.args.cost; drawn = 0; point = c.args.point } s.unfinished (omega arith) (omega arith) in
-    (c.push.ensures.sized, (omega (arith, c.push.ensures.len), (busy ∙ sym some, (ap (list_all begun) c.push.ensures.pushed ∙ more, tt))))
+    record {
+      sized = c.push.ensures.sized;
+      few = omega (arith, c.push.ensures.len);
+      staged = busy ∙ sym some;
+      unfinished = ap (list_all begun) c.push.ensures.pushed ∙ more;
+    }

@@ -1,6 +1,6 @@
-use Rattle.std.proofs.Common.{◌≡◌, ◌<◌, ◌≤◌, true, false, eqb, ◌∷◌, get_or, drop, sym, ap, ◌∙◌, arith}
+use Rattle.std.proofs.Common.{◌≡◌, ◌<◌, true, false, eqb, sym, ap, ◌∙◌, arith}
 use Rattle.std.specs.List.{list_all}
-use Rattle.std.proofs.lemmas.Bool.{ne_eqb, eqb-false}
+use Rattle.std.proofs.lemmas.Bool.{ne_eqb}
 use Rattle.keeping.specs.Queue.{cards_in, begun}
 use Rattle.keeping.specs.Record.{kept_of}
 use Rattle.keeping.specs.Stage.{is_idle, is_drawing}
@@ -20,7 +20,12 @@ invariant_of-self-else-ends c =
     let full : eqb s.queue.len 0 ≡ false = ne_eqb _ _ (λ z. omega (arith, z)) in
     let draws = chosen_draws s.stage (s.staged ∙ full) in
     let goes = on_begun (cards_in s.queue) (first_of s) (front_is s some) s.unfinished (sym c.if-ends.ensures) in
-    (c.replace.ensures.sized, (omega (arith, c.replace.ensures.len, s.few), (ap is_idle c.after-self-else-ends.ensures ∙ draws.0 ∙ sym full ∙ ap (λ n. eqb n 0) (sym c.replace.ensures.len), (ap (list_all begun) c.replace.ensures.replaced ∙ goes, tt))))
+    record {
+      sized = c.replace.ensures.sized;
+      few = omega (arith, c.replace.ensures.len, s.few);
+      staged = ap is_idle c.after-self-else-ends.ensures ∙ draws.0 ∙ sym full ∙ ap (λ n. eqb n 0) (sym c.replace.ensures.len);
+      unfinished = ap (list_all begun) c.replace.ensures.replaced ∙ goes;
+    }
 
 pub returns-then-ends : goal.returns-then-ends
 returns-then-ends c =
