@@ -1,4 +1,6 @@
 //! The dispatcher, and the law over every run of it.
+#![tactic(auto)]
+
 mod board;
 mod closed;
 mod dispatcher;

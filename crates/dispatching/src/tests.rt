@@ -134,7 +134,7 @@ fn the_worked_listing_has_its_picks_and_closes_with_its_latenesses(
     assert_eq!(rt; dispatcher.margin(), 9);
     assert_eq!(rt; answers(&dispatcher)?, (5, [0, 0, 0], [2, 0, 0]));
     let closed = dispatcher.close();
-    assert_eq!(rt; closed.latenesses(), [2, 0, 0]);
+    assert_eq!(rt; closed.latenesses(), [2, 0, 0].as_slice());
     assert_eq!(rt; (closed.roster.lanes(), closed.roster.len()), (2, 3));
     Ok(())
 }

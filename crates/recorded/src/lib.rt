@@ -1,4 +1,6 @@
 //! Recorded runs: calls made one after the other on a dispatcher, with their answers and picks.
+#![tactic(auto)]
+
 mod calling;
 mod event;
 mod replaying;

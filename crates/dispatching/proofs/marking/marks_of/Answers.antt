@@ -1,4 +1,4 @@
-use Rattle.std.proofs.Common.{◌≡◌, length, get_or, take, sym, refl, ap, ◌∙◌, arith}
+use Rattle.std.proofs.Common.{get_or, take, sym, refl, ap, ◌∙◌, arith}
 use Rattle.std.proofs.lemmas.List.{length-set, take_all, take_more}
 use Rattle.dispatching.specs.Pick.{has_feed}
 use Rattle.dispatching.proofs.Marks.{no_pick, numbered, unmarked, marked_more}

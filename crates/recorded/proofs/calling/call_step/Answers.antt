@@ -1,8 +1,7 @@
-use Rattle.std.proofs.Common.{◌≡◌, ◌-◌, min, false, List, ◌++◌, length, take, drop, replicate, sym, refl, ap, ◌∙◌, ap₂, arith}
+use Rattle.std.proofs.Common.{◌-◌, List, length, take, replicate, sym, refl, ◌∙◌, ap₂, arith}
 use Rattle.std.proofs.lemmas.List.{length-take-le}
 use Rattle.machine.specs.declared.pick.Pick.{Pick}
 use Rattle.dispatching.specs.Dispatcher.{opened_with, state}
-use Rattle.machine.specs.Machine.{picks}
 use Rattle.recorded.proofs.Calls.{room_enough, length_lent, lent_picks}
 use Rattle.dispatching.proofs.Marks.{no_pick}
 use Rattle.recorded.proofs.calling.call_step.Goals as goal

@@ -1,4 +1,4 @@
-use Rattle.std.proofs.Common.{◌≡◌, List, [], ◌∷◌, ◌++◌, map, get_or, take, vec_items, sym, refl, ap, ◌∙◌, subst, ap₂, arith}
+use Rattle.std.proofs.Common.{◌≡◌, [], ◌∷◌, ◌++◌, map, vec_items, sym, refl, ap, ◌∙◌, subst, ap₂}
 use Rattle.std.proofs.lemmas.List.{map_push, take_all, take_more}
 use Rattle.policy.specs.Order.{Order}
 use Rattle.policy.specs.Hold.{Hold}
@@ -6,7 +6,7 @@ use Rattle.roster.specs.declared.table.Roster.{Roster}
 use Rattle.dispatching.specs.Dispatcher.{opened_with, state}
 use Rattle.recorded.specs.Event.{event_of, call_of, run_of}
 use Rattle.machine.specs.Law.{Answers, Gives, OnTime, FewPicks, IsMargin, next, opened}
-use Rattle.machine.specs.Machine.{Opened, State, opening}
+use Rattle.machine.specs.Machine.{opening}
 use Rattle.machine.proofs.Reading.{few_picks}
 use Rattle.recorded.proofs.Runs.{after, after_push, gives_push}
 use Rattle.recorded.proofs.replaying.replay.Goals as goal
@@ -27,10 +27,10 @@ loop-call-preserved g c =
     let d = c.open-dispatcher.result in
     let o = opened_with g.O.QueueOrder.meaning g.H.HoldRule.meaning d in
     let so_far = vec_items c.loop-call.events in
-    let e = c.make-call.result in
+    let e = c.make_call.result in
     let inv = c.loop-call.invariant in
-    let call = c.make-call.ensures in
-    let pushed : vec_items c.push.new.self ≡ so_far ++ e ∷ [] = c.in-ok-push.ensures.items in
+    let call = c.make_call.ensures in
+    let pushed : vec_items c.push.new.self ≡ so_far ++ e ∷ [] = c.in_ok-push.ensures.items in
     let run : run_of (vec_items c.push.new.self) ≡ run_of so_far ++ event_of e ∷ [] = ap run_of pushed ∙ map_push event_of so_far e in
     let i = c.loop-call.call-index in
     let here : Answers o (after o (state d) (run_of so_far)) (event_of e) =

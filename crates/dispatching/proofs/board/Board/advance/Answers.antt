@@ -1,8 +1,8 @@
-use Rattle.std.proofs.Common.{◌≡◌, ◌+◌, ◌<◌, List, length, get_or, set, sym, refl, ap, ◌∙◌, subst, ap₂, arith}
+use Rattle.std.proofs.Common.{◌≡◌, ◌+◌, length, get_or, set, sym, ap, ◌∙◌, ap₂, arith}
 use Rattle.roster.specs.Roster.{feeds}
 use Rattle.roster.specs.Margin.{at}
 use Rattle.dispatching.specs.Board.{state_of, marked}
-use Rattle.machine.specs.Machine.{Kept, fresh, stirred}
+use Rattle.machine.specs.Machine.{fresh, stirred}
 use Rattle.dispatching.proofs.Boards.{kept_length, moving_more, moving_all}
 use Rattle.dispatching.proofs.board.Board.advance.Goals as goal
 

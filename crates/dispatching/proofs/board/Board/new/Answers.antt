@@ -1,7 +1,6 @@
-use Rattle.std.proofs.Common.{◌≡◌, replicate, sym, refl, ap, ◌∙◌, arith}
+use Rattle.std.proofs.Common.{refl, ap, arith}
 use Rattle.roster.proofs.Standing.{feeds_count}
 use Rattle.roster.specs.Roster.{feeds}
-use Rattle.machine.specs.Machine.{State, fresh}
 use Rattle.dispatching.proofs.Boards.{kept_fresh}
 use Rattle.dispatching.proofs.board.Board.new.Goals as goal
 

@@ -2,7 +2,7 @@ use Rattle.std.proofs.Common.{◌≡◌, map, sym, ap, ◌∙◌, subst}
 use Rattle.roster.specs.Roster.{feeds}
 use Rattle.dispatching.specs.Dispatcher.{opened_with, state}
 use Rattle.machine.specs.Law.{TimelyFrom}
-use Rattle.machine.specs.Machine.{State, fresh, opening}
+use Rattle.machine.specs.Machine.{fresh, opening}
 use Rattle.machine.proofs.Timely.{roster_timely}
 use Rattle.dispatching.proofs.dispatcher.Dispatcher.open.Goals as goal
 

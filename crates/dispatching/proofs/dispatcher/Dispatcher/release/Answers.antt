@@ -1,11 +1,10 @@
-use Rattle.std.proofs.Common.{◌≡◌, ℕ, ◌-◌, ◌<◌, ◌≤◌, length, set, None, sym, refl, ap, ◌∙◌, subst, ap₂, arith, rules}
+use Rattle.std.proofs.Common.{◌≡◌, ℕ, ◌-◌, ◌<◌, ◌≤◌, length, set, sym, refl, ap, ◌∙◌, subst, ap₂, arith, rules}
 use Rattle.policy.specs.Order.{AskedCard}
-use Rattle.policy.specs.Hold.{Hold}
 use Rattle.roster.specs.declared.table.Roster.{Roster}
 use Rattle.roster.specs.Margin.{at}
 use Rattle.roster.specs.Roster.{feeds}
 use Rattle.roster.proofs.Standing.{feeds_count, feed_rules}
-use Rattle.machine.specs.Machine.{Opened, State, kept_at, release_refusal, admit}
+use Rattle.machine.specs.Machine.{kept_at, admit}
 use Rattle.dispatching.specs.Dispatcher.{opened_with, state}
 use Rattle.machine.proofs.Trace.{Allowed, allowed_from_none}
 use Rattle.dispatching.proofs.dispatcher.Dispatcher.release.Goals as goal
