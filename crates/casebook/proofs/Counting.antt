@@ -7,7 +7,6 @@ use Rattle.recorded.specs.declared.event.Event.TheVariants.{Released, Stepped, R
 use Rattle.recorded.specs.Event.{event_of, call_of}
 use Rattle.machine.specs.Law.{Answers, next}
 use Rattle.machine.specs.Machine.{Opened, State}
-use Rattle.recorded.specs.Picks.{listed}
 use Rattle.machine.specs.Run.{Event, released, stepped, refused, cards_of}
 use Rattle.casebook.specs.Calls.{granted, or_refused, reply, run, releases}
 

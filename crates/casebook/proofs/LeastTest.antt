@@ -1,5 +1,5 @@
 -- A test by computing that a number is the least that is enough for every feed, and that there is one such number.
-use Rattle.std.proofs.Common.{◌≡◌, ℕ, zero, suc, ◌+◌, ◌-◌, ◌*◌, ◌<◌, ◌≤◌, Bool, true, false, not, ◌&&◌, ◌||◌, eqb, leb, List, refl, ⊎_elim, mul-le-mul_right, arith, below_none, below_more}
+use Rattle.std.proofs.Common.{◌≡◌, ℕ, zero, suc, ◌+◌, ◌-◌, ◌*◌, ◌<◌, Bool, true, not, ◌&&◌, ◌||◌, eqb, leb, List, refl, ⊎_elim, mul-le-mul_right, arith, below_none, below_more}
 use Rattle.std.proofs.lemmas.Bool.{and_parts, and_from, or_cases, eqb-true, leb-true, le-leb, both_ways, not-true, cases_lt}
 use Rattle.policy.specs.Order.{Order}
 use Rattle.roster.specs.declared.feed.Feed.{Feed}

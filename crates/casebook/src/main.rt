@@ -1,5 +1,7 @@
 //! The worked cases: rosters and settings as data, what is asked of them, and the answers, printed a line each.
 //! After them a recorded run, call by call.
+#![tactic(auto)]
+
 mod ask;
 mod calls;
 mod plan;

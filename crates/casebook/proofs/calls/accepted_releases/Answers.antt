@@ -10,7 +10,7 @@ use Rattle.casebook.specs.Right.{present}
 use Rattle.casebook.proofs.Building.{present_at}
 use Rattle.casebook.proofs.Counting.{Counting, counted, passed, called}
 use Rattle.casebook.proofs.calls.accepted_releases.Goals as goal
-use Rattle.casebook.proofs.calls.accepted_releases.Goals.{in-Some+then-is-release, in-Some+else-is-release, in-default}
+use Rattle.casebook.proofs.calls.accepted_releases.Goals.{in-Some+then-is_release, in-Some+else-is_release, in_default}
 
 pub loop-slot-init : goal.loop-slot-init
 loop-slot-init c = (cc, omega arith, (0, zero-add _))
@@ -31,17 +31,17 @@ loop-slot-preserved c =
     let at : (slot : Option Call) → get_or slots i None ≡ slot → Counting n total count (run o (state d) (present (slot ∷ drop (i + 1) slots))) =
     λ slot is. subst (λ calls. Counting n total count (run o (state d) calls)) (present_at slots i c.loop-slot-test.true slot is) inv.2 in
     elim c.match-slot.branch [
-      | in-Some+then-is-release w ↦
+      | in-Some+then-is_release w ↦
           let call = w.in-Some.call in
-          let made = w.make-call.ensures in
-          let goes = called n total o now (state d) (state w.make-call.new.dispatcher) count call left w.make-call.result inv.0 made.answer made.call made.state (at (Some call) w.in-Some.is) in
-          simp (w.dispatcher-is, w.count-is) (cc (made.same_parts.0, made.same_parts.1, made.same_parts.2, inv.0), omega arith, counted n total count _ _ (sym w.if-is-release.ensures) goes)
-      | in-Some+else-is-release w ↦
+          let made = w.make_call.ensures in
+          let goes = called n total o now (state d) (state w.make_call.new.dispatcher) count call left w.make_call.result inv.0 made.answer made.call made.state (at (Some call) w.in-Some.is) in
+          simp (w.dispatcher-is, w.count-is) (cc (made.same_parts.0, made.same_parts.1, made.same_parts.2, inv.0), omega arith, counted n total count _ _ (sym w.if-is_release.ensures) goes)
+      | in-Some+else-is_release w ↦
           let call = w.in-Some.call in
-          let made = w.make-call.ensures in
-          let goes = called n total o now (state d) (state w.make-call.new.dispatcher) count call left w.make-call.result inv.0 made.answer made.call made.state (at (Some call) w.in-Some.is) in
-          simp (w.dispatcher-is, w.count-is) (cc (made.same_parts.0, made.same_parts.1, made.same_parts.2, inv.0), omega arith, passed n total count _ _ (sym w.if-is-release.ensures) goes)
-      | in-default w ↦ simp (w.dispatcher-is, w.count-is) (inv.0, omega arith, at None w.in-default.is)
+          let made = w.make_call.ensures in
+          let goes = called n total o now (state d) (state w.make_call.new.dispatcher) count call left w.make_call.result inv.0 made.answer made.call made.state (at (Some call) w.in-Some.is) in
+          simp (w.dispatcher-is, w.count-is) (cc (made.same_parts.0, made.same_parts.1, made.same_parts.2, inv.0), omega arith, passed n total count _ _ (sym w.if-is_release.ensures) goes)
+      | in_default w ↦ simp (w.dispatcher-is, w.count-is) (inv.0, omega arith, at None w.in_default.is)
     ]
 
 pub returns : goal.returns
