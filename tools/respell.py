@@ -23,6 +23,8 @@ def files():
         yield from sorted(glob.glob("crates/*/" + pattern, recursive=True))
 
 
+# Comments and strings keep their words.
+KEPT = re.compile(r'(?:--|//)[^\n]*|"(?:[^"\\\n]|\\.)*"')
 # Lemmas that would have the name of the function whose clause they prove.
 LEMMAS = ["runs-on-time", "never-later", "held-covered", "unheld-covered", "weights-covered", "largest-costs", "largest-weights"]
 # Definitions that share a method's name; a method is called behind a dot.
@@ -66,12 +68,16 @@ for path, text in texts.items():
 out, bad = {}, []
 for path, text in texts.items():
     keep = taken(text) | made(text)
-    present = set(TOKEN.findall(text))
+    present = set(TOKEN.findall(KEPT.sub("", text)))
     for name in sorted(own & present - keep):
         if respelled(name) in present | keep and name not in METHODS:
             bad.append(f"{path}: {name} falls together with {respelled(name)}")
 
-    def turn(m, text=text, keep=keep):
+    spans = [m.span() for m in KEPT.finditer(text)]
+
+    def turn(m, text=text, keep=keep, spans=spans):
+        if any(a <= m.start() < b for a, b in spans):
+            return m.group(1)
         name, before = m.group(1), text[max(0, m.start() - 1) : m.start()]
         if name not in own or name in keep:
             return name

@@ -1,6 +1,6 @@
 -- A test by computing that a case has its one right answer.
 use Rattle.std.proofs.Common.{◌≡◌, ℕ, ◌+◌, ◌-◌, ◌*◌, Bool, true, false, ◌&&◌, eqb, leb, List, [], ◌∷◌, length, IfOk, Some, None, Ok, Err, Option, Result, sym, refl, ap, ◌∙◌, ap₂, arith}
-use Rattle.std.specs.List.{list_all, AllByRecursion as All}
+use Rattle.std.specs.List.{list_all, AllByRecursion}
 use Rattle.std.proofs.lemmas.Bool.{and_parts, both_ways, eqb-true, leb-true}
 use Rattle.refusal.specs.Told.{Told, told, refusal}
 use Rattle.refusal.specs.declared.reason.Refusal.{Refusal}
@@ -86,7 +86,7 @@ right_only (Some t) q (Err d) (Err f) h e v =
 abbrev case_test : Case → Bool
 case_test c = right_test (question_refusal c.question) c.question c.answer
 
-all_only_right : (cs : List Case) → list_all case_test cs ≡ true → All (λ c. OnlyRight c.question c.answer) cs
+all_only_right : (cs : List Case) → list_all case_test cs ≡ true → AllByRecursion (λ c. OnlyRight c.question c.answer) cs
 all_only_right [] h = tt
 all_only_right (c ∷ cs) h =
     let parts = and_parts (case_test c) (list_all case_test cs) h in

@@ -1,6 +1,6 @@
 -- The right answer to a question, by the rules of rosters, orders, hold rules and margins.
 use Rattle.std.specs.Prelude.{◌≡◌, ℕ, ◌+◌, List, [], ◌∷◌, ◌++◌, length, IfOk, Some, None, Option, Result}
-use Rattle.std.specs.List.{AllByRecursion as All}
+use Rattle.std.specs.List.{AllByRecursion}
 use Rattle.refusal.specs.Told.{Told, told, unless, then, refusal}
 use Rattle.refusal.specs.declared.reason.Refusal.{Refusal}
 use Rattle.refusal.specs.declared.reason.Refusal.TheVariants.{Setting}
@@ -92,4 +92,4 @@ OnlyRight q r = Right q r × ((s : Result ℕ Refusal) → Right q s → s ≡ r
 
 -- Every case of a table has its one right answer.
 pub record RightTable (cases : List Case) : Type 0 where
-  pub each : All (λ c. OnlyRight c.question c.answer) cases
+  pub each : AllByRecursion (λ c. OnlyRight c.question c.answer) cases

@@ -84,7 +84,7 @@ fn print_events(rt: &HostRuntime, events: &[Event], feeds: &[Feed], margin: u32)
     Ok(())
 }
 
-/// Records a run on two lanes and three feeds under first_come and never, and prints it with its margin.
+/// Records a run on two lanes and three feeds under first-come and never, and prints it with its margin.
 pub fn print_run(rt: &HostRuntime) -> io::Result<()> {
     let order = OrderPlan::FirstCome;
     let hold = HoldPlan::Never;

@@ -23,8 +23,8 @@ impl fmt::Display for Plan {
 impl fmt::Display for OrderPlan {
     fn fmt<W: fmt::Write>(&self, f: &mut fmt::Formatter<W>) -> fmt::Result {
         match self {
-            OrderPlan::FirstCome => write!(f, "first_come"),
-            OrderPlan::ByDue => write!(f, "by_due"),
+            OrderPlan::FirstCome => write!(f, "first-come"),
+            OrderPlan::ByDue => write!(f, "by-due"),
             OrderPlan::Part(a, b) => write!(f, "part {a} {b}"),
         }
     }

@@ -41,7 +41,7 @@ fn two_lanes(feeds: [(u32, u32); 3]) -> Result<Roster, Refusal> {
     Ok(roster)
 }
 
-// A dispatcher on that roster, first_come and without holding.
+// A dispatcher on that roster, first-come and without holding.
 fn opened(feeds: [(u32, u32); 3]) -> Result<Dispatcher<FirstCome, Never>, Refusal> {
     Ok(Dispatcher::open(two_lanes(feeds)?, FirstCome, Never))
 }

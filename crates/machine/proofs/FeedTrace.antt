@@ -1,6 +1,6 @@
 -- One feed over all ticks: what is kept of it, the cards accepted so far, and which of them is current.
 use Rattle.std.proofs.Common.{◌≡◌, ℕ, zero, suc, ◌+◌, ◌-◌, ◌<◌, ◌≤◌, Bool, true, false, cond, ◌&&◌, eqb, List, [], ◌∷◌, ◌++◌, map, length, get_or, Some, None, Option, sym, refl, ap, ◌∙◌, subst, ⊎_elim, arith}
-use Rattle.std.specs.List.{AllByRecursion as All}
+use Rattle.std.specs.List.{AllByRecursion}
 use Rattle.std.proofs.ByRecursion.{All-append, All-push, All-weaker, All-get_or}
 use Rattle.std.proofs.lemmas.List.{append-nil, append_assoc, map-append}
 use Rattle.std.proofs.lemmas.Bool.{cases_lt, cases_Bool, both_ways, leb-true, leb-false, and_from, eq-eqb, cond_both}
@@ -54,7 +54,7 @@ own_within (a ∷ xs) zero h = omega arith
 own_within (a ∷ xs) (suc j) h = omega (arith, own_within xs j h)
 
 -- what holds of every card of a list holds of one in its middle
-all_here : (P : Accepted → Type 0) (xs ys : List Accepted) (a : Accepted) → All P (xs ++ a ∷ ys) → P a
+all_here : (P : Accepted → Type 0) (xs ys : List Accepted) (a : Accepted) → AllByRecursion P (xs ++ a ∷ ys) → P a
 all_here P [] ys a h = h.0
 all_here P (b ∷ xs) ys a h = all_here P xs ys a h.1
 
@@ -83,7 +83,7 @@ module _ (spacing : ℕ) where
   release_here base (b ∷ xs) ys a = release_here (b.release + spacing) xs ys a
 
   -- a card of the second part of a list, where all of that part is released after t
-  release_late : (t base : ℕ) (xs ys : List Accepted) (j : ℕ) → All (λ (a : Accepted). t < a.release) ys → length xs ≤ j → j < length (xs ++ ys) → t < release_from base (xs ++ ys) j
+  release_late : (t base : ℕ) (xs ys : List Accepted) (j : ℕ) → AllByRecursion (λ (a : Accepted). t < a.release) ys → length xs ≤ j → j < length (xs ++ ys) → t < release_from base (xs ++ ys) j
   release_late t base [] [] j late low high = absurd (omega arith)
   release_late t base [] (b ∷ ys) zero late low high = late.0
   release_late t base [] (b ∷ ys) (suc j) late low high = release_late t (b.release + spacing) [] ys j late.1 (omega arith) (omega arith)
@@ -91,7 +91,7 @@ module _ (spacing : ℕ) where
   release_late t base (a ∷ xs) ys (suc j) late low high = release_late t (a.release + spacing) xs ys j late (omega arith) (omega arith)
 
   -- a card of a list, where all of it is released by t
-  pub release_by : (t base : ℕ) (xs : List Accepted) (j : ℕ) → j < length xs → All (λ (a : Accepted). a.release ≤ t) xs → release_from base xs j ≤ t
+  pub release_by : (t base : ℕ) (xs : List Accepted) (j : ℕ) → j < length xs → AllByRecursion (λ (a : Accepted). a.release ≤ t) xs → release_from base xs j ≤ t
   release_by t base [] j within soon = absurd (omega arith)
   release_by t base (a ∷ xs) zero within soon = soon.0
   release_by t base (a ∷ xs) (suc j) within soon = release_by t (a.release + spacing) xs j (omega arith) soon.1
@@ -261,21 +261,21 @@ module _ (spacing cost : ℕ) (points : ℕ → ℕ) (arrivals : ℕ → List �
   Pointed c = c.point ≡ points c.release
 
   -- accepted cards have the point of their release
-  admits_pointed : (t : ℕ) (cs : List ℕ) (r : Kept) → All Pointed r.waiting → All Pointed (admits points t cs r).waiting
+  admits_pointed : (t : ℕ) (cs : List ℕ) (r : Kept) → AllByRecursion Pointed r.waiting → AllByRecursion Pointed (admits points t cs r).waiting
   admits_pointed t [] r h = h
   admits_pointed t (c ∷ cs) r h = admits_pointed t cs (admit t c (points t) r) (All-push Pointed r.waiting _ h refl)
 
   -- a card that draws keeps its point and its release
-  draw_pointed : (clock : ℕ) (r : Kept) (w : List Card) → All Pointed r.waiting → All Pointed w → All Pointed (draw spacing clock r w).waiting
+  draw_pointed : (clock : ℕ) (r : Kept) (w : List Card) → AllByRecursion Pointed r.waiting → AllByRecursion Pointed w → AllByRecursion Pointed (draw spacing clock r w).waiting
   draw_pointed clock r [] h g = h
-  draw_pointed clock r (c ∷ w) h g = cond_both (ends c) _ _ (λ (x : Kept). All Pointed x.waiting) (λ e. g.1) (λ e. g)
+  draw_pointed clock r (c ∷ w) h g = cond_both (ends c) _ _ (λ (x : Kept). AllByRecursion Pointed x.waiting) (λ e. g.1) (λ e. g)
 
   -- all waiting cards of any tick have the point of their release
-  trace_pointed : (t : ℕ) → All Pointed (trace t).waiting
+  trace_pointed : (t : ℕ) → AllByRecursion Pointed (trace t).waiting
   trace_pointed zero = admits_pointed 0 (arrivals 0) fresh tt
   trace_pointed (suc t) =
       let i = trace_pointed t in
-      admits_pointed (suc t) (arrivals (suc t)) (before (suc t)) (cond_both (draws t) _ _ (λ (x : Kept). All Pointed x.waiting) (λ e. draw_pointed (suc t) (trace t) (trace t).waiting i i) (λ e. i))
+      admits_pointed (suc t) (arrivals (suc t)) (before (suc t)) (cond_both (draws t) _ _ (λ (x : Kept). AllByRecursion Pointed x.waiting) (λ e. draw_pointed (suc t) (trace t) (trace t).waiting i i) (λ e. i))
 
   -- where a card waits, the point of the first one is that of its release
   pub front_pointed : (t : ℕ) → 0 < length (trace t).waiting → (front (trace t)).point ≡ points (front (trace t)).release
@@ -288,16 +288,16 @@ module _ (spacing cost : ℕ) (points : ℕ → ℕ) (arrivals : ℕ → List �
   before_last : (t : ℕ) → (trace t).last ≡ (before (suc t)).last
   before_last t = cond_both (draws t) _ _ (λ (x : Kept). (trace t).last ≡ x.last) (λ e. sym (draw_last (suc t) (trace t) (trace t).waiting)) (λ e. refl)
 
-  all_cards : (P : Accepted → Type 0) (t : ℕ) (cs : List ℕ) → ((c : ℕ) → P record { release = t; cost = c }) → All P (cards_at t cs)
+  all_cards : (P : Accepted → Type 0) (t : ℕ) (cs : List ℕ) → ((c : ℕ) → P record { release = t; cost = c }) → AllByRecursion P (cards_at t cs)
   all_cards P t [] h = tt
   all_cards P t (c ∷ cs) h = (h c, all_cards P t cs h)
 
-  pub history_released : (t : ℕ) → All (λ (a : Accepted). a.release ≤ t) (history t)
+  pub history_released : (t : ℕ) → AllByRecursion (λ (a : Accepted). a.release ≤ t) (history t)
   history_released zero = all_cards _ 0 (arrivals 0) (λ c. omega arith)
   history_released (suc t) = All-append _ (history t) (now_cards (suc t)) (All-weaker (λ (a : Accepted). a.release ≤ t) _ (λ a h. omega arith) (history t) (history_released t)) (all_cards _ (suc t) (arrivals (suc t)) (λ c. omega arith))
 
   -- later ticks only add cards, and those are released later
-  history_grows : (t d : ℕ) → (rest : List Accepted) × (history (t + d) ≡ history t ++ rest) × All (λ (a : Accepted). t < a.release) rest
+  history_grows : (t d : ℕ) → (rest : List Accepted) × (history (t + d) ≡ history t ++ rest) × AllByRecursion (λ (a : Accepted). t < a.release) rest
   history_grows t zero = let z : t + 0 ≡ t = omega arith in ([], ap history z ∙ sym (append-nil (history t)), tt)
   history_grows t (suc d) =
       let z : t + suc d ≡ suc (t + d) = omega arith in
@@ -358,7 +358,7 @@ module _ (spacing cost : ℕ) (points : ℕ → ℕ) (arrivals : ℕ → List �
     history_same t h = let z : t ≡ N + (t - N) = omega arith in ap history z ∙ history_settled (t - N)
 
     -- the whole history begins with the history of any tick, and the rest is released later
-    pub history_begins : (t : ℕ) → (rest : List Accepted) × (history N ≡ history t ++ rest) × All (λ (a : Accepted). t < a.release) rest
+    pub history_begins : (t : ℕ) → (rest : List Accepted) × (history N ≡ history t ++ rest) × AllByRecursion (λ (a : Accepted). t < a.release) rest
     history_begins t = ⊎_elim
         (λ over. ([], sym (history_same t (omega arith)) ∙ sym (append-nil (history t)), tt))
         (λ yet. let z : N ≡ t + (N - t) = omega arith in let g = history_grows t (N - t) in (g.0, ap history z ∙ g.1, g.2))
@@ -378,7 +378,7 @@ module _ (spacing cost : ℕ) (points : ℕ → ℕ) (arrivals : ℕ → List �
           fits_cost = i.queue.1;
           own_is = ap (λ (x : List Accepted). own_of x (length i.done)) whole ∙ own_here i.done after (plain c);
           release_is = sym (ap (λ (x : List Accepted). release_from spacing 0 x (length i.done)) whole ∙ release_here spacing 0 i.done after (plain c));
-          released = all_here (λ a. a.release ≤ t) i.done (map plain cs) (plain c) (subst (λ (x : List Accepted). All (λ (a : Accepted). a.release ≤ t) x) i.splits (history_released t));
+          released = all_here (λ a. a.release ≤ t) i.done (map plain cs) (plain c) (subst (λ (x : List Accepted). AllByRecursion (λ (a : Accepted). a.release ≤ t) x) i.splits (history_released t));
         }
 
     front_at : (t : ℕ) → 0 < length (trace t).waiting → Front N t (front (trace t))

@@ -1,4 +1,4 @@
--- Worked runs. The first: two lanes, feeds (cost, spacing) (1, 2), (4, 6), (4, 6), first_come, never.
+-- Worked runs. The first: two lanes, feeds (cost, spacing) (1, 2), (4, 6), (4, 6), first-come, never.
 use Rattle.std.specs.Prelude.{◌≡◌, ℕ, zero, suc, true, false, [], ◌∷◌, map, Some, None}
 use Rattle.policy.specs.Built.{first_come, never}
 use Rattle.machine.specs.declared.pick.Pick.{Pick}
@@ -49,7 +49,7 @@ pub record Listing : Type 0 where
   pub fifth : picks house before_5 ≡ is_done 1 1 2 ∷ []
   pub latenesses : map (λ r. r.worst) after_5.kept ≡ 2 ∷ (0 ∷ (0 ∷ []))
 
--- The second run: two lanes, feeds (1, 1), (100, 200), (100, 200), first_come, never. All release at 0, and feed 1 in each tick.
+-- The second run: two lanes, feeds (1, 1), (100, 200), (100, 200), first-come, never. All release at 0, and feed 1 in each tick.
 abbrev pub crowd : Opened
 crowd = record {
   lanes = 2;

@@ -3,7 +3,7 @@ use Rattle.std.proofs.Common.{◌≡◌, ℕ, ◌/◌, ◌≤◌, Bool, true, Li
 use native.Mathlib.Nat.{mul-div-le}
 use Rattle.std.proofs.lemmas.Bool.{and_parts, and_from}
 use Rattle.std.proofs.lemmas.Bool.Decides.{nat_tests}
-use Rattle.std.specs.List.{list_all, AllByRecursion as All}
+use Rattle.std.specs.List.{list_all, AllByRecursion}
 use Rattle.roster.specs.declared.feed.Feed.{Feed}
 use Rattle.roster.specs.Feeds.{lawful, weight}
 
@@ -19,11 +19,11 @@ rules_from_lawful f h = record { spaced = grind (arith, nat_tests); short = grin
 
 -- a test that every element of a list passes
 module _ {X : Type 0} (p : X → Bool) where
-  pub each_passes : (xs : List X) → list_all p xs ≡ true → All (λ x. p x ≡ true) xs
+  pub each_passes : (xs : List X) → list_all p xs ≡ true → AllByRecursion (λ x. p x ≡ true) xs
   each_passes [] h = tt
   each_passes (x ∷ xs) h = let parts = and_parts (p x) (list_all p xs) h in (parts.0, each_passes xs parts.1)
 
-  pub all_from_each : (xs : List X) → All (λ x. p x ≡ true) xs → list_all p xs ≡ true
+  pub all_from_each : (xs : List X) → AllByRecursion (λ x. p x ≡ true) xs → list_all p xs ≡ true
   all_from_each [] h = refl
   all_from_each (x ∷ xs) h = and_from (p x) (list_all p xs) h.0 (all_from_each xs h.1)
 
