@@ -46,8 +46,8 @@ module _ (n total : ℕ) where
 
   -- a call was made: its event stands before what the calls left give
   pub called : (o now : Opened) (s after : State) (count : ℕ) (call : Call) (left : List Call) (r : Recorded) → now ≡ o → Answers now s (event_of r) → call_of r ≡ call → after ≡ next now s (event_of r) → Counting count (run o s (call ∷ left)) → Counting count (event_of r ∷ run o after left)
-  called o now s after count call left r same answers is_call is-after h =
+  called o now s after count call left r same answers is_call is_after h =
       let e = event_of r in
       let is : e ≡ reply o s call = is_reply o s r call (subst (λ p. Answers p s e) same answers) is_call in
-      let goes : after ≡ next o s e = is-after ∙ ap (λ p. next p s e) same in
+      let goes : after ≡ next o s e = is_after ∙ ap (λ p. next p s e) same in
       subst (λ z. Counting count (e ∷ run o z left)) (sym goes) (subst (λ d. Counting count (d ∷ run o (next o s d) left)) (sym is) h)

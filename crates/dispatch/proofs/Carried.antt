@@ -42,7 +42,7 @@ clock_bound o s (stepped ps ∷ es) gives h = omega (arith, clock_bound o (advan
 
 -- the same points and releases under other names
 same_ahead : (p p' r r' q q' u u' g h m n : ℕ) → p ≡ p' → r ≡ r' → q ≡ q' → u ≡ u' → ahead p g m r q h n u ≡ true → ahead p' g m r' q' h n u' ≡ true
-same_ahead p p' r r' q q' u u' g h m n is-p is-r is-q is-u e = rw (← is-p, ← is-r, ← is-q, ← is-u) e
+same_ahead p p' r r' q q' u u' g h m n is_p is_r is_q is_u e = rw (← is_p, ← is_r, ← is_q, ← is_u) e
 
 module _ (o : Opened) (law : Lawful o) (es : List Event) (gives : Gives o (opening o) es) where
   abbrev pub st : ℕ → State
@@ -241,13 +241,13 @@ module _ (o : Opened) (law : Lawful o) (es : List Event) (gives : Gives o (openi
   draw_laws = record {
     draws_ready = λ k t inside draws. let found = front_card k inside t (and_parts (ready (st t) k) _ draws).0 in (found.0, found.1);
     few_draw = λ t. few (st t);
-    all_lanes = λ l j t inside is-ready idle. all_taken (length o.feeds) o.lanes (ready (st t)) (comes_first o (st t)) (first_any o (st t)) (first_asym o (st t)) (first_through o (st t)) l inside (current_ready l inside t j is-ready) idle;
-    chosen = λ l j t inside is-ready idle k i inside' draws current.
-        let waiting = current_ready l inside t j is-ready in
+    all_lanes = λ l j t inside is_ready idle. all_taken (length o.feeds) o.lanes (ready (st t)) (comes_first o (st t)) (first_any o (st t)) (first_asym o (st t)) (first_through o (st t)) l inside (current_ready l inside t j is_ready) idle;
+    chosen = λ l j t inside is_ready idle k i inside' draws current.
+        let waiting = current_ready l inside t j is_ready in
         let drawing = (and_parts (ready (st t) k) _ draws).0 in
         let first = taken_first (length o.feeds) o.lanes (ready (st t)) (comes_first o (st t)) (first_any o (st t)) (first_asym o (st t)) (first_through o (st t)) k l inside' inside draws waiting idle in
         let mine = front_mark k inside' t i current drawing in
-        let yours = front_mark l inside t j is-ready.current waiting in
+        let yours = front_mark l inside t j is_ready.current waiting in
         ⊎_elim inl (λ before. inr (same_ahead (o.order.point (k + 1) (gap k) (front (kept_at (st t) k)).release) (mark k i) (front (kept_at (st t) k)).release (released_at k i) (o.order.point (l + 1) (gap l) (front (kept_at (st t) l)).release) (mark l j) (front (kept_at (st t) l)).release (released_at l j) (gap k) (gap l) (k + 1) (l + 1) mine.1 mine.0 yours.1 yours.0 before)) (first_held_or_ahead o (st t) k l first);
     none_held_first = λ k inside. ⊎_elim
         (λ yes. absurd (both_ways _ (feed.drew_none (gap k) (price k) (arrivals k es) (draws k) (fits k inside) (works k inside) (clock_of es) (quiet k es)) (held_drew k inside 0 yes)))

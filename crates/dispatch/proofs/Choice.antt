@@ -23,7 +23,7 @@ module _ (q : ℕ → Bool) (before : ℕ → ℕ → Bool)
   last_of zero = inl (λ k b. absurd (omega arith))
   last_of (suc n) = ⊎_elim
       (λ none. ⊎_elim
-      (λ yes. inr (n, (omega arith, yes, λ k b in-q apart. absurd (both_ways (q k) (none k (omega (arith, apart_below k b apart))) in-q))))
+      (λ yes. inr (n, (omega arith, yes, λ k b in_q apart. absurd (both_ways (q k) (none k (omega (arith, apart_below k b apart))) in_q))))
       (λ out. inl (below_or none out))
       (cases_Bool (q n)))
       (λ found.
@@ -31,10 +31,10 @@ module _ (q : ℕ → Bool) (before : ℕ → ℕ → Bool)
       let old = found.1 in
       ⊎_elim
       (λ yes. ⊎_elim
-      (λ first. inr (w, (omega (arith, old.0), old.1, λ k b in-q apart. ⊎_elim (λ is-n. ap (λ i. before i w) is-n ∙ first) (λ other. old.2 k (omega (arith, apart_below k b other)) in-q apart) (cases_eq k n))))
-      (λ after. inr (n, (omega arith, yes, λ k b in-q apart. ⊎_elim (λ is-w. ap (λ i. before i n) is-w ∙ after) (λ other. trans k w n (old.2 k (omega (arith, apart_below k b apart)) in-q other) after) (cases_eq k w))))
+      (λ first. inr (w, (omega (arith, old.0), old.1, λ k b in_q apart. ⊎_elim (λ is_n. ap (λ i. before i w) is_n ∙ first) (λ other. old.2 k (omega (arith, apart_below k b other)) in_q apart) (cases_eq k n))))
+      (λ after. inr (n, (omega arith, yes, λ k b in_q apart. ⊎_elim (λ is_w. ap (λ i. before i n) is_w ∙ after) (λ other. trans k w n (old.2 k (omega (arith, apart_below k b apart)) in_q other) after) (cases_eq k w))))
       (total n w (λ same. omega (arith, same, old.0))))
-      (λ out. inr (w, (omega (arith, old.0), old.1, λ k b in-q apart. ⊎_elim (λ is-n. absurd (both_ways (q k) (ap q is-n ∙ out) in-q)) (λ other. old.2 k (omega (arith, apart_below k b other)) in-q apart) (cases_eq k n))))
+      (λ out. inr (w, (omega (arith, old.0), old.1, λ k b in_q apart. ⊎_elim (λ is_n. absurd (both_ways (q k) (ap q is_n ∙ out) in_q)) (λ other. old.2 k (omega (arith, apart_below k b other)) in_q apart) (cases_eq k n))))
       (cases_Bool (q n)))
       (last_of n)
     where
@@ -42,7 +42,7 @@ module _ (q : ℕ → Bool) (before : ℕ → ℕ → Bool)
       apart_below k b apart = ⊎_elim (λ below. below) (λ above. absurd (apart (omega arith))) (cases_lt k n)
 
       below_or : ((k : ℕ) → k < n → q k ≡ false) → q n ≡ false → (k : ℕ) → k < suc n → q k ≡ false
-      below_or none out k b = ⊎_elim (λ is-n. ap q is-n ∙ out) (λ other. none k (apart_below k b other)) (cases_eq k n)
+      below_or none out k b = ⊎_elim (λ is_n. ap q is_n ∙ out) (λ other. none k (apart_below k b other)) (cases_eq k n)
 
 module _ (n m : ℕ) (ready : ℕ → Bool) (before : ℕ → ℕ → Bool)
     (total : (k l : ℕ) → k ≢ l → (before k l ≡ true) ⊎ (before l k ≡ true))
@@ -59,13 +59,13 @@ module _ (n m : ℕ) (ready : ℕ → Bool) (before : ℕ → ℕ → Bool)
 
   -- what is taken stands before what is ready and not taken
   pub taken_first : (k l : ℕ) → k < n → l < n → taken k ≡ true → ready l ≡ true → taken l ≡ false → before k l ≡ true
-  taken_first k l bk bl took ready-l none = ⊎_elim
+  taken_first k l bk bl took ready_l none = ⊎_elim
       (λ first. first)
       (λ after.
       let less = count_strict n (λ p. ready p && before p l) (λ p. ready p && before p k)
       (λ p b h. let parts = and_parts (ready p) _ h in and_from _ _ parts.0 (trans p l k parts.1 after))
-      l bl (and_right (ready l) _ (itself l)) (and_from _ _ ready-l after) in
-      absurd (both_ways (taken l) none (and_from _ _ ready-l (lt-ltb _ _ (omega (arith, less, ltb-true _ _ (and_parts (ready k) _ took).1))))))
+      l bl (and_right (ready l) _ (itself l)) (and_from _ _ ready_l after) in
+      absurd (both_ways (taken l) none (and_from _ _ ready_l (lt-ltb _ _ (omega (arith, less, ltb-true _ _ (and_parts (ready k) _ took).1))))))
       (total k l (λ same. both_ways (taken l) none (ap taken (sym same) ∙ took)))
 
   pub few_taken : count n taken ≤ m
@@ -78,8 +78,8 @@ module _ (n m : ℕ) (ready : ℕ → Bool) (before : ℕ → ℕ → Bool)
 
   -- where something ready is not taken, m are
   pub all_taken : (l : ℕ) → l < n → ready l ≡ true → taken l ≡ false → m ≤ count n taken
-  all_taken l bl ready-l none = ⊎_elim
-      (λ empty. absurd (both_ways _ (empty l bl) (and_from _ _ ready-l (not_from_false _ none))))
+  all_taken l bl ready_l none = ⊎_elim
+      (λ empty. absurd (both_ways _ (empty l bl) (and_from _ _ ready_l (not_from_false _ none))))
       (λ found.
       let z = found.0 in
       let left = and_parts (ready z) _ found.1.1 in

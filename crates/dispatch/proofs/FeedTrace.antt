@@ -354,10 +354,10 @@ module _ (spacing cost : ℕ) (arrivals : ℕ → List ℕ) (draws : ℕ → Boo
         let g = history_begins t in
         let after = map plain cs ++ g.0 in
         let whole = g.1 ∙ ap (λ (x : List Accepted). x ++ g.0) i.splits ∙ append_assoc i.done (plain c ∷ map plain cs) g.0 in
-        let work-is : work N (length i.done) ≡ total i.done = ap (λ (x : List Accepted). sum (length i.done) (own_of x)) whole ∙ work_front i.done (plain c ∷ after) in
+        let work_is : work N (length i.done) ≡ total i.done = ap (λ (x : List Accepted). sum (length i.done) (own_of x)) whole ∙ work_front i.done (plain c ∷ after) in
         record {
           place = length i.done;
-          paid = omega (arith, i.paid, work-is);
+          paid = omega (arith, i.paid, work_is);
           unfinished = i.queue.0;
           fits_cost = i.queue.1;
           own_is = ap (λ (x : List Accepted). own_of x (length i.done)) whole ∙ own_here i.done after (plain c);
@@ -380,8 +380,8 @@ module _ (spacing cost : ℕ) (arrivals : ℕ → List ℕ) (draws : ℕ → Boo
         let g = history_begins t in
         let split = i.splits ∙ append-nil i.done in
         let whole = g.1 ∙ ap (λ (x : List Accepted). x ++ g.0) split in
-        let work-is : work N (length i.done) ≡ total i.done = ap (λ (x : List Accepted). sum (length i.done) (own_of x)) whole ∙ work_front i.done g.0 in
-        let past : length i.done ≤ j = sum_order (own N) (length i.done) j (served t) (omega (arith, i.paid, work-is)) high in
+        let work_is : work N (length i.done) ≡ total i.done = ap (λ (x : List Accepted). sum (length i.done) (own_of x)) whole ∙ work_front i.done g.0 in
+        let past : length i.done ≤ j = sum_order (own N) (length i.done) j (served t) (omega (arith, i.paid, work_is)) high in
         let within : j < length (history N) = own_within (history N) j (omega arith) in
         let late = release_late spacing t 0 (history t) g.0 j g.2 (omega (arith, ap length split)) (omega (arith, ap length g.1)) in
         absurd (omega (arith, late, ap (λ (x : List Accepted). release_from spacing 0 x j) g.1))
@@ -456,8 +456,8 @@ module _ (spacing cost : ℕ) (arrivals : ℕ → List ℕ) (draws : ℕ → Boo
         (λ here.
         let f = front_at T (works T yes) in
         let same : f.place ≡ j = one_step (own N) f.place j (served T) (omega (arith, f.paid)) (omega (arith, f.paid, f.own_is, f.unfinished)) here (omega arith) in
-        let is-picked = and_from (draws T) (eqb (front (trace T)).release (release N j)) yes (eq-eqb (front (trace T)).release (release N j) (f.release_is ∙ ap (release N) same)) in
-        omega (arith, served_yes T yes, ap (λ b. only b 1) is-picked, picked_some j T (served T) (omega arith) (omega arith)))
+        let is_picked = and_from (draws T) (eqb (front (trace T)).release (release N j)) yes (eq-eqb (front (trace T)).release (release N j) (f.release_is ∙ ap (release N) same)) in
+        omega (arith, served_yes T yes, ap (λ b. only b 1) is_picked, picked_some j T (served T) (omega arith) (omega arith)))
         (cases_lt (served T) (work N j)))
         (λ old. omega (arith, picked_some j T m old high))
         (cases_lt (served T) m))

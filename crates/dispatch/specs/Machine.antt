@@ -1,5 +1,5 @@
 -- The machine: what a dispatcher keeps, and what releasing and stepping do to it.
-use Rattle.std.specs.Prelude.{ℕ, zero, suc, ◌+◌, ◌-◌, max, Bool, true, false, cond, not, ◌&&◌, ◌||◌, leb, List, [], ◌∷◌, ◌++◌, map, length, get_or, Some, None, Option, ◌==◌, nat_le, nat_lt, slice_index_or, slice_set}
+use Rattle.std.specs.Prelude.{ℕ, zero, suc, ◌+◌, ◌-◌, max, Bool, true, false, cond, not, ◌&&◌, ◌||◌, List, [], ◌∷◌, ◌++◌, map, length, get_or, Some, None, Option, ◌==◌, nat_le, nat_lt, slice_index_or, slice_set}
 use Rattle.refusal.specs.Told.{Told, unless, then}
 use Rattle.policy.specs.Order.{Order}
 use Rattle.policy.specs.Hold.{Hold}
@@ -144,7 +144,7 @@ pub record Pick : Type 0 where
 abbrev pub pick : Opened → State → ℕ → Pick
 pick o s k =
     let c = front (kept_at s k) in
-    let done = leb c.cost (c.drawn + 1) in
+    let done = nat_le c.cost (c.drawn + 1) in
     record { feed = k + 1; release = c.release; done = done; lateness = cond done (suc s.clock - (c.release + (at o.feeds k).spacing)) 0 }
 
 -- The picks of a step, those ahead first.

@@ -202,8 +202,8 @@ scan_number : (deep : Bool) (d rest : List ℕ) → is_number d ≡ true → sca
 scan_number deep [] rest is = absurd (both_ways false refl is)
 scan_number deep (b ∷ d) rest is =
     let parts = and_parts (is_digit b) (list_all is_digit d) is in
-    let no-letter : is_letter b ≡ false = not_letter b parts.0 in
-    ap (λ q. scan q (d ++ rest)) (cond-false (is_letter b) _ _ no-letter ∙ cond-true (is_digit b) (inside deep at.number) _ parts.0)
+    let no_letter : is_letter b ≡ false = not_letter b parts.0 in
+    ap (λ q. scan q (d ++ rest)) (cond-false (is_letter b) _ _ no_letter ∙ cond-true (is_digit b) (inside deep at.number) _ parts.0)
     ∙ scan_run is_digit (inside deep at.number) (λ c e. cond-true (is_digit c) _ _ e) d rest parts.1
   where
     not_letter : (b : ℕ) → is_digit b ≡ true → is_letter b ≡ false

@@ -24,12 +24,12 @@ module _ (s : Schedule) (cards : CardLaws s) (drawing : DrawLaws s) (l j : ℕ) 
       (λ draws. draws)
       (λ idle.
       let full = missed_full s cards drawing l j is_feed (suc t) (pending_at (suc t) before) k fk waiting idle in
-      let was-left : (k' : ℕ) → k' < s.feeds → drawn s k' (suc t) < goal s l j k' → s.draws k' t ≡ true =
+      let was_left : (k' : ℕ) → k' < s.feeds → drawn s k' (suc t) < goal s l j k' → s.draws k' t ≡ true =
       λ k' fk' left. calm k' fk' (left_waits k' t fk' late (omega (arith, drawn_mono s k' t (suc t) (omega arith)))) in
       let drew : (k' : ℕ) → k' < s.feeds → s.draws k' (suc t) ≡ true → s.draws k' t ≡ true =
-      λ k' fk' draws. ⊎_elim (λ study. was-left k' fk' (ltb-true _ _ (and_parts (s.draws k' (suc t)) _ study).1)) (drawing.held_drew k' t fk') (full.kept k' fk' draws) in
+      λ k' fk' draws. ⊎_elim (λ study. was_left k' fk' (ltb-true _ _ (and_parts (s.draws k' (suc t)) _ study).1)) (drawing.held_drew k' t fk') (full.kept k' fk' draws) in
       let found = waits_ready s l j k (suc t) waiting in
-      let mine = was-left k fk (omega (arith, found.2.current.unfinished, work_mono s k (suc found.0) (studied s l j k) found.1)) in
+      let mine = was_left k fk (omega (arith, found.2.current.unfinished, work_mono s k (suc found.0) (studied s l j k) found.1)) in
       absurd (omega (arith, full.busy, drawing.few_draw t, count_strict s.feeds (λ k. s.draws k (suc t)) (λ k. s.draws k t) drew k fk idle mine)))
       (cases_Bool (s.draws k (suc t)))
 
@@ -81,17 +81,17 @@ late_plain m x e left now b some at_most fell late =
     omega (arith, ap (λ n. m * n) whole, mul-add m x (b - x), mul-le-mul_right (b - x) some)
 
 module _ (s : Schedule) (cards : CardLaws s) (drawing : DrawLaws s) (x l j : ℕ) (is_feed : l < s.feeds)
-    (in-time : (k i : ℕ) → k < s.feeds → due s k i < due s l j → Finished s k i (due s k i + x + s.cost k))
-    (at-due : potential s l j (due s l j) ≤ s.lanes * x + s.cost l)
+    (in_time : (k i : ℕ) → k < s.feeds → due s k i < due s l j → Finished s k i (due s k i + x + s.cost k))
+    (at_due : potential s l j (due s l j) ≤ s.lanes * x + s.cost l)
     (pending : drawn s l (due s l j + x + s.cost l) < work s l (suc j)) where
   -- the cards before the one under study are finished x ticks after its due
   before_done : (i : ℕ) → i ≡ j → work s l i ≤ drawn s l (due s l j + x)
-  before_done zero is-j = omega arith
-  before_done (suc i) is-j =
-      let next : due s l i ≤ s.release l j = omega (arith, cards.spaced l i is_feed, ap (s.release l) is-j) in
+  before_done zero is_j = omega arith
+  before_done (suc i) is_j =
+      let next : due s l i ≤ s.release l j = omega (arith, cards.spaced l i is_feed, ap (s.release l) is_j) in
       let fits = cards.cost_fits l is_feed in
       let some = cards.some_cost l is_feed in
-      omega (arith, in-time l i is_feed (omega arith), drawn_mono s l (due s l i + x + s.cost l) (due s l j + x) (omega arith))
+      omega (arith, in_time l i is_feed (omega arith), drawn_mono s l (due s l i + x + s.cost l) (due s l j + x) (omega arith))
 
   -- a card that is not finished by its latest tick is finished by it after all
   pub finished_after_all : ⊥
@@ -107,14 +107,14 @@ module _ (s : Schedule) (cards : CardLaws s) (drawing : DrawLaws s) (x l j : ℕ
       (λ late.
       let rest = x + e - b in
       let to_end : td + b + rest ≡ td + x + e = omega (arith, found.1) in
-      let left = late_plain s.lanes x e (potential s l j (td + b)) (potential s l j td) b cards.some_lane at-due found.3 late in
+      let left = late_plain s.lanes x e (potential s l j (td + b)) (potential s l j td) b cards.some_lane at_due found.3 late in
       omega (arith, pending, ap (drawn s l) to_end, steady s cards drawing l j is_feed (td + x + e) pending (td + b) rest (omega arith) (omega (arith, found.1)) calm, own_left s cards drawing l j is_feed (td + x + e) pending (td + b)))
       (λ soon.
-      let to-x : td + b + (x - b) ≡ td + x = omega arith in
-      let calm-x = subst (Calm s l j) to-x (calm_on s cards drawing l j is_feed (td + x + e) pending (td + b) (x - b) (omega arith) (omega arith) calm) in
-      omega (arith, pending, steady s cards drawing l j is_feed (td + x + e) pending (td + x) e (omega arith) (omega arith) calm-x, before_done j refl, cards.own_fits l j is_feed))
+      let to_x : td + b + (x - b) ≡ td + x = omega arith in
+      let calm_x = subst (Calm s l j) to_x (calm_on s cards drawing l j is_feed (td + x + e) pending (td + b) (x - b) (omega arith) (omega arith) calm) in
+      omega (arith, pending, steady s cards drawing l j is_feed (td + x + e) pending (td + x) e (omega arith) (omega arith) calm_x, before_done j refl, cards.own_fits l j is_feed))
       (cases_lt x b))
       (λ none.
-      let left = full_plain s.lanes x e (potential s l j (td + (x + e))) (potential s l j td) cards.some_lane at-due none in
+      let left = full_plain s.lanes x e (potential s l j (td + (x + e))) (potential s l j td) cards.some_lane at_due none in
       omega (arith, pending, ap (potential s l j) end, own_left s cards drawing l j is_feed (td + x + e) pending (td + x + e)))
       (walk_on s cards drawing l j is_feed (td + x + e) pending (x + e) (omega arith))

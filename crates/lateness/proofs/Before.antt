@@ -58,7 +58,7 @@ module _ (s : Schedule) (cards : CardLaws s) (l j : ℕ) (is_feed : l < s.feeds)
 
   -- the early cards of any feed, if those due before t are finished in time
   caught : (x : ℕ) → ((i : ℕ) → due s k i < due s l j → Finished s k i (due s k i + x + s.cost k)) → s.hyperperiod * (work s k (early s l j k) - drawn s k t) ≤ s.hyperperiod * s.cost k + x * s.weight k + s.weight k * (due s l j - t)
-  caught x in-time = ⊎_elim
+  caught x in_time = ⊎_elim
       (λ some.
       let n = early s l j k in
       let found = current_below s k n t some in
@@ -66,7 +66,7 @@ module _ (s : Schedule) (cards : CardLaws s) (l j : ℕ) (is_feed : l < s.feeds)
       let here = found.2 in
       let d = n - suc i in
       let all : suc i + d ≡ n = omega (arith, found.1) in
-      let window = work_in_window s cards k fk (suc i) d (due s k i) (due s l j) (λ c is-suc. (cards.spaced k i fk, early_due s cards l j is_feed k (suc i + c) fk (omega arith))) in
+      let window = work_in_window s cards k fk (suc i) d (due s k i) (due s l j) (λ c is_suc. (cards.spaced k i fk, early_due s cards l j is_feed k (suc i + c) fk (omega arith))) in
       let rem = work s k (suc i) - drawn s k t in
       let small : rem ≤ s.cost k = omega (arith, here.reached, cards.own_fits k i fk) in
       let split : work s k n - drawn s k t ≤ rem + (work s k (suc i + d) - work s k (suc i)) = omega (arith, here.unfinished, ap (work s k) all) in
@@ -75,7 +75,7 @@ module _ (s : Schedule) (cards : CardLaws s) (l j : ℕ) (is_feed : l < s.feeds)
       ⊎_elim
       (λ past.
       let g = t - due s k i in
-      let done = in-time i (omega arith) in
+      let done = in_time i (omega arith) in
       let u = due s k i + x + s.cost k in
       let close : rem + g ≤ x + s.cost k = ⊎_elim
       (λ over. absurd (omega (arith, done, here.unfinished, drawn_mono s k u t (omega arith))))
@@ -102,7 +102,7 @@ only_parts : (b : Bool) (L e x w : ℕ) → only b (L * e + x * w) ≡ L * only 
 only_parts true L e x w = refl
 only_parts false L e x w = omega arith
 
-module _ (s : Schedule) (cards : CardLaws s) (drawing : DrawLaws s) (l j : ℕ) (is_feed : l < s.feeds) (takes : 1 ≤ s.own l j) (x : ℕ) (in-time : (k i : ℕ) → k < s.feeds → due s k i < due s l j → Finished s k i (due s k i + x + s.cost k)) where
+module _ (s : Schedule) (cards : CardLaws s) (drawing : DrawLaws s) (l j : ℕ) (is_feed : l < s.feeds) (takes : 1 ≤ s.own l j) (x : ℕ) (in_time : (k i : ℕ) → k < s.feeds → due s k i < due s l j → Finished s k i (due s k i + x + s.cost k)) where
   -- after a slack tick, a feed that did not draw a studied card has finished those that were released
   idle_done : (k t : ℕ) → k < s.feeds → AfterSlack s l j t → studying_before s l j k t ≡ false → (i : ℕ) → i < studied s l j k → s.release k i < t → work s k (suc i) ≤ drawn s k t
   idle_done k zero fk slack idle i inside before = absurd (omega arith)
@@ -118,7 +118,7 @@ module _ (s : Schedule) (cards : CardLaws s) (drawing : DrawLaws s) (l j : ℕ) 
 
   early_left : (k t : ℕ) → k < s.feeds → t ≤ due s l j → AfterSlack s l j t → s.hyperperiod * (work s k (early s l j k) - drawn s k t) ≤ only (studying_before s l j k t) (s.hyperperiod * s.cost k + x * s.weight k) + s.weight k * (due s l j - t)
   early_left k t fk by_due slack = ⊎_elim
-      (λ yes. rw yes (caught s cards l j is_feed k fk t by_due x (λ i. in-time k i fk)))
+      (λ yes. rw yes (caught s cards l j is_feed k fk t by_due x (λ i. in_time k i fk)))
       (λ none. rw none (omega (arith, rested s cards l j is_feed k fk t by_due (idle_done k t fk slack none))))
       (cases_Bool (studying_before s l j k t))
 
@@ -133,15 +133,15 @@ module _ (s : Schedule) (cards : CardLaws s) (drawing : DrawLaws s) (l j : ℕ) 
 
   part_left : (t k : ℕ) → k < s.feeds → t ≤ due s l j → AfterSlack s l j t → s.hyperperiod * part s l j k t ≤ share t k
   part_left t k fk by_due slack =
-      let early-work = work s k (early s l j k) - drawn s k t in
-      let on-hold = only (outside_before s l j k t) (s.stay k) in
-      let most : part s l j k t ≤ early-work + (extra s l j k + on-hold) =
+      let early_work = work s k (early s l j k) - drawn s k t in
+      let on_hold = only (outside_before s l j k t) (s.stay k) in
+      let most : part s l j k t ≤ early_work + (extra s l j k + on_hold) =
       omega (arith, goal_split s cards l j is_feed takes k fk, only_most (outside_before s l j k t) (keep s l j k t) (s.stay k) (omega arith)) in
       omega (
         arith,
         mul-le-mul_left s.hyperperiod most,
-        mul-add s.hyperperiod early-work (extra s l j k + on-hold),
-        mul-add s.hyperperiod (extra s l j k) on-hold,
+        mul-add s.hyperperiod early_work (extra s l j k + on_hold),
+        mul-add s.hyperperiod (extra s l j k) on_hold,
         early_left k t fk by_due slack,
         only_parts (studying_before s l j k t) s.hyperperiod (s.cost k) x (s.weight k),
         mul_comm (s.weight k) (due s l j - t),
@@ -248,7 +248,7 @@ module _ (s : Schedule) (cards : CardLaws s) (drawing : DrawLaws s)
     (progress heaviest : ℕ) (overtaking : ℕ → ℕ) (x : ℕ)
     (covers_progress : CoversProgress s progress) (covers_weights : CoversWeights s heaviest) (covers_overtaking : CoversOvertaking s overtaking) (enough : Enough s progress heaviest overtaking x)
     (l j : ℕ) (is_feed : l < s.feeds) (takes : 1 ≤ s.own l j)
-    (in-time : (k i : ℕ) → k < s.feeds → due s k i < due s l j → Finished s k i (due s k i + x + s.cost k))
+    (in_time : (k i : ℕ) → k < s.feeds → due s k i < due s l j → Finished s k i (due s k i + x + s.cost k))
     (pending : (t : ℕ) → t ≤ due s l j → drawn s l t < work s l (suc j)) where
   -- from the last slack tick on, every tick is full
   walk : (t : ℕ) → t ≤ due s l j → (from : ℕ) × (from ≤ t) × AfterSlack s l j from × (potential s l j t + s.lanes * (t - from) ≤ potential s l j from)
@@ -274,7 +274,7 @@ module _ (s : Schedule) (cards : CardLaws s) (drawing : DrawLaws s)
       due_plain s.hyperperiod s.lanes x progress heaviest (overtaking l) (s.cost l) cards.some_hyperperiod (enough l is_feed)
       (due s l j - from) (potential s l j from) (potential s l j (due s l j))
       _ _ (sum s.feeds s.weight) (sum s.feeds (extra s l j)) _
-      (potential_left s cards drawing l j is_feed takes x in-time from far.1 far.2)
+      (potential_left s cards drawing l j is_feed takes x in_time from far.1 far.2)
       (covers_progress α β (never_both s drawing l j from) few (few_both s drawing l j from))
       (covers_weights α few)
       (omega (arith, cards.carried, sum_mono s.feeds (λ k. only (α k) (s.weight k)) s.weight (λ k fk. only_at_most (α k) (s.weight k))))

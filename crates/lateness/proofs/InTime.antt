@@ -27,9 +27,9 @@ module _ (s : Schedule) (cards : CardLaws s) (drawing : DrawLaws s)
       (λ blank. blank_done l j is_feed (omega arith) (λ i. earlier l i is_feed))
       (λ takes. ⊎_elim
       (λ pending.
-      let at-due = potential_at_due s cards drawing progress heaviest overtaking x covers_progress covers_weights covers_overtaking enough l j is_feed takes earlier
+      let at_due = potential_at_due s cards drawing progress heaviest overtaking x covers_progress covers_weights covers_overtaking enough l j is_feed takes earlier
       (λ t by_due. omega (arith, pending, drawn_mono s l t (due s l j + x + s.cost l) (omega arith))) in
-      absurd (finished_after_all s cards drawing x l j is_feed earlier at-due pending))
+      absurd (finished_after_all s cards drawing x l j is_feed earlier at_due pending))
       (λ done. done)
       (cases_lt (drawn s l (due s l j + x + s.cost l)) (work s l (suc j))))
       (cases_lt (s.own l j) 1)

@@ -43,12 +43,12 @@ count_mono n p q h = sum_mono n _ _ (λ k b. only_mono (p k) (q k) 1 (h k b))
 
 -- one that passes only the second test makes the second count larger
 pub count_strict : (n : ℕ) (p q : ℕ → Bool) → ((k : ℕ) → k < n → p k ≡ true → q k ≡ true) → (l : ℕ) → l < n → p l ≡ false → q l ≡ true → count n p < count n q
-count_strict zero p q h l b no-p yes-q = omega arith
-count_strict (suc n) p q h l b no-p yes-q = ⊎_elim
-    (λ below. omega (arith, count_strict n p q (λ k c. h k (omega arith)) l below no-p yes-q, only_mono (p n) (q n) 1 (h n (omega arith))))
+count_strict zero p q h l b no_p yes_q = omega arith
+count_strict (suc n) p q h l b no_p yes_q = ⊎_elim
+    (λ below. omega (arith, count_strict n p q (λ k c. h k (omega arith)) l below no_p yes_q, only_mono (p n) (q n) 1 (h n (omega arith))))
     (λ last. let same : l ≡ n = omega arith in
-    let one = ap (λ t. only t 1) (ap q (sym same) ∙ yes-q) in
-    let none = ap (λ t. only t 1) (ap p (sym same) ∙ no-p) in
+    let one = ap (λ t. only t 1) (ap q (sym same) ∙ yes_q) in
+    let none = ap (λ t. only t 1) (ap p (sym same) ∙ no_p) in
     omega (arith, one, none, count_mono n p q (λ k c. h k (omega arith))))
     (cases_lt l n)
 

@@ -109,7 +109,7 @@ module _ (s : Schedule) (cards : CardLaws s) (drawing : DrawLaws s) (l j : ℕ) 
         let over : s.ahead k i l j ≡ true = ⊎_elim
         (λ same. ⊎_elim
         (λ less. cards.ahead_transitive k i k' i' l j ahead (ap (λ n. s.ahead n i' l j) same ∙ cards.ahead_own l i' j is_feed less))
-        (λ last. let is-j : i' ≡ j = omega (arith, studied_own s cards l j is_feed k' same) in sym (ap₂ (s.ahead k i) same is-j) ∙ ahead)
+        (λ last. let is_j : i' ≡ j = omega (arith, studied_own s cards l j is_feed k' same) in sym (ap₂ (s.ahead k i) same is_j) ∙ ahead)
         (cases_lt i' j))
         (λ other. cards.ahead_transitive k i k' i' l j ahead (studied_ahead s cards l j is_feed k' i' fk' other inside))
         (cases_eq k' l) in

@@ -82,19 +82,19 @@ module _ (o : Opened) (law : Lawful o) (es : List Event) (gives : Gives o (openi
   card_release k i h = ap (λ xs. feed.release_from (gap o law es gives k) 0 xs i) (past_is k) ∙ release_get_or (gap o law es gives k) 0 (cards_of (k + 1) 0 es) i h
 
   pub on_time : (x : ℕ) → Margin o.lanes o.feeds o.order o.hold x → OnTime o x es
-  on_time x margin k j inside is-card by-clock i earlier =
+  on_time x margin k j inside is_card by_clock i earlier =
       let s = schedule o law es gives in
       let T = latest o x es k j in
       let done = never_later_lem s (card_laws o law es gives) (draw_laws o law es gives) (in_progress o.lanes o.hold.ever o.feeds) (heaviest o.lanes o.feeds) (overtaking o.order o.feeds) x covers_progress covers_weights covers_overtaking margin.enough k j inside in
-      let same : released_at o law es gives k j + (at o.feeds k).spacing + x + (at o.feeds k).cost ≡ T = omega (arith, card_release k j is-card) in
-      let is-early : i < length (cards_of (k + 1) 0 es) = omega arith in
+      let same : released_at o law es gives k j + (at o.feeds k).spacing + x + (at o.feeds k).cost ≡ T = omega (arith, card_release k j is_card) in
+      let is_early : i < length (cards_of (k + 1) 0 es) = omega arith in
       let served : sum (suc i) (takes o law es gives k) ≤ count T (draws o law es gives k) =
       omega (arith, done, ap (λ t. count t (draws o law es gives k)) same, work_mono s k (suc i) (suc j) (omega arith)) in
       let enough = feed.picked_enough (gap o law es gives k) (price o law es gives k) (points o k) (arrivals k es) (draws o law es gives k) (fits o law es gives k inside) (works o law es gives k inside) (clock_of es) (reading.quiet k es) i T served in
       let seen : (t : ℕ) → t < T → feed.picks_card (gap o law es gives k) (price o law es gives k) (points o k) (arrivals k es) (draws o law es gives k) (clock_of es) i t ≡ true → (chosen o (st o law es gives t) k && eqb (front (kept_at (st o law es gives t) k)).release (card es k i).release) ≡ true =
       λ t b h. subst (λ r. (chosen o (st o law es gives t) k && eqb r (card es k i).release) ≡ true) (ap (λ r. (front r).release) (trace_is o law es gives k inside t))
-      (subst (λ r. (draws o law es gives k t && eqb (front (feed.trace (gap o law es gives k) (price o law es gives k) (points o k) (arrivals k es) (draws o law es gives k) t)).release r) ≡ true) (card_release k i is-early) h) in
-      omega (arith, enough, card_own k i is-early, reading.drawn_counted o (opening o) es k (card es k i).release T gives inside by-clock, count_mono T _ _ seen)
+      (subst (λ r. (draws o law es gives k t && eqb (front (feed.trace (gap o law es gives k) (price o law es gives k) (points o k) (arrivals k es) (draws o law es gives k) t)).release r) ≡ true) (card_release k i is_early) h) in
+      omega (arith, enough, card_own k i is_early, reading.drawn_counted o (opening o) es k (card es k i).release T gives inside by_clock, count_mono T _ _ seen)
 
 pub runs_on_time_lem : RunsOnTime
 runs_on_time_lem o law x margin es gives = (on_time o law es gives x margin, reading.few_picks o (opening o) es gives)

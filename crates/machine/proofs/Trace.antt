@@ -43,10 +43,10 @@ pub allowed_from_none : (o : Opened) (s : State) (n c : ℕ) → release_refusal
 allowed_from_none o s n c h =
     let k = n - 1 in
     let listed = checks_passed (is_feed o.feeds n) _ _ h in
-    let is-cost = checks_passed (leb 1 c && leb c (at o.feeds k).cost) _ _ listed.1 in
-    let later = checks_passed (apart (kept_at s k).last (at o.feeds k).spacing s.clock) _ _ is-cost.1 in
+    let is_cost = checks_passed (leb 1 c && leb c (at o.feeds k).cost) _ _ listed.1 in
+    let later = checks_passed (apart (kept_at s k).last (at o.feeds k).spacing s.clock) _ _ is_cost.1 in
     let number = and_parts (leb 1 n) (leb n (length o.feeds)) listed.0 in
-    let cost = and_parts (leb 1 c) (leb c (at o.feeds k).cost) is-cost.0 in
+    let cost = and_parts (leb 1 c) (leb c (at o.feeds k).cost) is_cost.0 in
     record { low = leb-true _ _ number.0; high = leb-true _ _ number.1; some = leb-true _ _ cost.0; fits = leb-true _ _ cost.1; spaced = later.0; room = ltb-true _ _ (check_passed _ (told Waiting) later.1) }
 
 -- a list of feeds moved, feed by feed
@@ -110,16 +110,16 @@ module _ (o : Opened) where
 
   -- from one tick to the next
   pub kept_next : (s : State) (es : List Event) (k t clock : ℕ) → Gives o s es → Sized s → k < length o.feeds → clock ≡ s.clock + suc t → kept_at (state_at o s es (suc t)) k ≡ after k clock (arrivals k es (suc t)) (state_at o s es t)
-  kept_next s [] k zero clock gives sized inside is-clock = kept_advance s k sized inside ∙ ap (λ n. after k n [] s) (omega arith)
-  kept_next s [] k (suc t) clock gives sized inside is-clock = kept_next (advance o s) [] k t clock tt (sized_advance s sized) inside (omega arith)
-  kept_next s (released n c ∷ es) k t clock gives sized inside is-clock = kept_next (release o s n c) es k t clock gives.1 (sized_release s n c sized) inside is-clock
-  kept_next s (stepped room ps ∷ es) k zero clock gives sized inside is-clock =
+  kept_next s [] k zero clock gives sized inside is_clock = kept_advance s k sized inside ∙ ap (λ n. after k n [] s) (omega arith)
+  kept_next s [] k (suc t) clock gives sized inside is_clock = kept_next (advance o s) [] k t clock tt (sized_advance s sized) inside (omega arith)
+  kept_next s (released n c ∷ es) k t clock gives sized inside is_clock = kept_next (release o s n c) es k t clock gives.1 (sized_release s n c sized) inside is_clock
+  kept_next s (stepped room ps ∷ es) k zero clock gives sized inside is_clock =
       let z : suc s.clock ≡ clock = omega arith in
       kept_first (advance o s) es k gives.1 (sized_advance s sized) inside
       ∙ ap (admits (points k) (suc s.clock) (arrivals k es 0)) (kept_advance s k sized inside)
       ∙ ap (λ n. after k n (arrivals k es 0) s) z
-  kept_next s (stepped room ps ∷ es) k (suc t) clock gives sized inside is-clock = kept_next (advance o s) es k t clock gives.1 (sized_advance s sized) inside (omega arith)
-  kept_next s (refused call told ∷ es) k t clock gives sized inside is-clock = kept_next s es k t clock gives.1 sized inside is-clock
+  kept_next s (stepped room ps ∷ es) k (suc t) clock gives sized inside is_clock = kept_next (advance o s) es k t clock gives.1 (sized_advance s sized) inside (omega arith)
+  kept_next s (refused call told ∷ es) k t clock gives sized inside is_clock = kept_next s es k t clock gives.1 sized inside is_clock
 
   abbrev pub Acceptable : ℕ → ℕ → List ℕ → Kept → Type 0
   Acceptable k = Fits (at o.feeds k).spacing (at o.feeds k).cost (points k)
@@ -150,11 +150,11 @@ module _ (o : Opened) where
   stirred_at k clock s = stirred (at o.feeds k).spacing clock (chosen o s k) (kept_at s k)
 
   pub fits_next : (s : State) (es : List Event) (k t clock : ℕ) → Gives o s es → Sized s → k < length o.feeds → clock ≡ s.clock + suc t → Acceptable k clock (arrivals k es (suc t)) (stirred_at k clock (state_at o s es t))
-  fits_next s [] k t clock gives sized inside is-clock = tt
-  fits_next s (released n c ∷ es) k t clock gives sized inside is-clock = fits_next (release o s n c) es k t clock gives.1 (sized_release s n c sized) inside is-clock
-  fits_next s (stepped room ps ∷ es) k zero clock gives sized inside is-clock =
+  fits_next s [] k t clock gives sized inside is_clock = tt
+  fits_next s (released n c ∷ es) k t clock gives sized inside is_clock = fits_next (release o s n c) es k t clock gives.1 (sized_release s n c sized) inside is_clock
+  fits_next s (stepped room ps ∷ es) k zero clock gives sized inside is_clock =
       let z : suc s.clock ≡ clock = omega arith in
       let here = fits_first (advance o s) es k gives.1 (sized_advance s sized) inside in
       subst (λ n. Acceptable k n (arrivals k es 0) (stirred_at k n s)) z (subst (Acceptable k (suc s.clock) (arrivals k es 0)) (kept_advance s k sized inside) here)
-  fits_next s (stepped room ps ∷ es) k (suc t) clock gives sized inside is-clock = fits_next (advance o s) es k t clock gives.1 (sized_advance s sized) inside (omega arith)
-  fits_next s (refused call told ∷ es) k t clock gives sized inside is-clock = fits_next s es k t clock gives.1 sized inside is-clock
+  fits_next s (stepped room ps ∷ es) k (suc t) clock gives sized inside is_clock = fits_next (advance o s) es k t clock gives.1 (sized_advance s sized) inside (omega arith)
+  fits_next s (refused call told ∷ es) k t clock gives sized inside is_clock = fits_next s es k t clock gives.1 sized inside is_clock

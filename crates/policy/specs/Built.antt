@@ -5,7 +5,7 @@ use Rattle.policy.specs.Hold.{Hold}
 
 -- Whether the first of two feeds has the longer spacing.
 abbrev pub longer : ℕ → ℕ → ℕ → ℕ → Bool
-longer feed spacing other other-spacing = nat_lt other-spacing spacing
+longer feed spacing other other_spacing = nat_lt other_spacing spacing
 
 -- First-come: the point is the release; the longer spacing overtakes.
 abbrev pub first_come : Order
@@ -13,7 +13,7 @@ first_come = record { point = λ feed spacing release. release; overtakes = long
 
 -- By-due: the point is the due; nothing overtakes.
 abbrev pub by_due : Order
-by_due = record { point = λ feed spacing release. release + spacing; overtakes = λ feed spacing other other-spacing. false }
+by_due = record { point = λ feed spacing release. release + spacing; overtakes = λ feed spacing other other_spacing. false }
 
 -- Part a b: the point lies a / b of the spacing after the release, rounded down; the longer spacing overtakes.
 abbrev pub part : ℕ → ℕ → Order

@@ -21,9 +21,9 @@ pub record AskedCard (feed spacing release : ℕ) : Type 0 where
   pub early : release ≤ 1000000000
 
 -- Two feeds that can be asked about: each can, and they differ.
-pub record AskedPair (feed spacing other other-spacing : ℕ) : Type 0 where
+pub record AskedPair (feed spacing other other_spacing : ℕ) : Type 0 where
   pub first : AskedFeed feed spacing
-  pub second : AskedFeed other other-spacing
+  pub second : AskedFeed other other_spacing
   pub distinct : feed ≢ other
 
 -- Law: a point lies between the release and the due, which is release + spacing.
@@ -36,10 +36,10 @@ Within o =
 -- Law: where a card of one feed has a point no greater than a card of another feed, and a later due, the first feed overtakes the other.
 abbrev pub Overtaking : Order → Type 0
 Overtaking o =
-    (feed spacing release other other-spacing other-release : ℕ) →
-    AskedPair feed spacing other other-spacing →
+    (feed spacing release other other_spacing other_release : ℕ) →
+    AskedPair feed spacing other other_spacing →
     release ≤ 1000000000 →
-    other-release ≤ 1000000000 →
-    o.point feed spacing release ≤ o.point other other-spacing other-release →
-    other-release + other-spacing < release + spacing →
-    o.overtakes feed spacing other other-spacing ≡ true
+    other_release ≤ 1000000000 →
+    o.point feed spacing release ≤ o.point other other_spacing other_release →
+    other_release + other_spacing < release + spacing →
+    o.overtakes feed spacing other other_spacing ≡ true

@@ -28,9 +28,9 @@ part_within a b lawful feed spacing release card =
     (omega arith, omega arith)
 
 pub part_overtaking : (a b : ℕ) → part_lawful a b ≡ true → Overtaking (part a b)
-part_overtaking a b lawful feed spacing release other other-spacing other-release pair early other-early ahead later =
+part_overtaking a b lawful feed spacing release other other_spacing other_release pair early other_early ahead later =
     let range = lawful_range a b lawful in
     ⊎_elim
-    (lt-ltb other-spacing spacing)
-    (λ no_longer. let slow = share_slow spacing other-spacing a b range.0 range.1 no_longer in absurd (omega arith))
-    (cases_lt other-spacing spacing)
+    (lt-ltb other_spacing spacing)
+    (λ no_longer. let slow = share_slow spacing other_spacing a b range.0 range.1 no_longer in absurd (omega arith))
+    (cases_lt other_spacing spacing)

@@ -13,7 +13,7 @@ use std::test::Fail;
 struct FirstFeedFirst;
 
 impl QueueOrder for FirstFeedFirst {
-    ghost meaning = { λ _. record { point = λ feed spacing release. (if nat_eq feed 1 then release else release + spacing); overtakes = λ feed spacing other other-spacing. (feed == 1) } };
+    ghost meaning = { λ _. record { point = λ feed spacing release. (if nat_eq feed 1 then release else release + spacing); overtakes = λ feed spacing other other_spacing. (feed == 1) } };
 
     ghost within = { Prim.search rules };
 

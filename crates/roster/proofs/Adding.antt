@@ -44,11 +44,11 @@ refused_long lanes fs f room law long =
 
 -- the last check, on the sum of the weights
 pub weighed : (lanes : ℕ) (fs : List Feed) (f : Feed) (l total w : ℕ) (carried : Bool) → length fs < 32 → lawful f ≡ true → l ≡ hyperperiod_of (fs ++ f ∷ []) → l ≤ 10000000 → total ≡ weights l fs → w ≡ weight l f → leb (total + w) (lanes * l) ≡ carried → add_refusal lanes fs f ≡ unless carried (told Overload)
-weighed lanes fs f l total w carried room law is-l short is-total is-w test =
+weighed lanes fs f l total w carried room law is_l short is_total is_w test =
     let has_room = lt-ltb (length fs) 32 room in
-    let not-long = le-leb l 10000000 short in
-    let summed : weights l (fs ++ f ∷ []) ≡ total + w = sum_by_push (weight l) fs f ∙ sym (ap₂ ◌+◌ is-total is-w) in
-    simp (has_room, law, ← is-l, not-long, summed, test)
+    let not_long = le-leb l 10000000 short in
+    let summed : weights l (fs ++ f ∷ []) ≡ total + w = sum_by_push (weight l) fs f ∙ sym (ap₂ ◌+◌ is_total is_w) in
+    simp (has_room, law, ← is_l, not_long, summed, test)
 
 -- what is known of a feed that all checks let pass
 pub record Accepted (lanes : ℕ) (fs : List Feed) (f : Feed) : Type 0 where

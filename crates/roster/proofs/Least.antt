@@ -14,9 +14,9 @@ module _ (l progress rate : ℕ) (order : Order) (fs : List Feed) where
       ((y : ℕ) → d ≤ y → l * needed ≤ y * rate + l * own) →
       ((y : ℕ) → l * needed ≤ y * rate + l * own → d ≤ y) →
       x ≤ z → d ≤ z → (z ≡ x) ⊎ (z ≡ d) → Least l progress rate order fs (n + 1) z
-  least_more n x d z needed own before is-needed is-own enough least xz dz which =
-      let left = ap (λ m. l * m) is-needed in
-      let right = ap (λ m. l * m) is-own in
+  least_more n x d z needed own before is_needed is_own enough least xz dz which =
+      let left = ap (λ m. l * m) is_needed in
+      let right = ap (λ m. l * m) is_own in
       record {
         enough = below_more _ n (λ k h. omega (arith, before.enough k h, mul-le-mul_right rate xz)) (omega (arith, enough z dz));
         least = λ y all. ⊎_elim
@@ -27,4 +27,4 @@ module _ (l progress rate : ℕ) (order : Order) (fs : List Feed) where
 
 -- the same numbers under other names
 pub least_renamed : {order : Order} {fs : List Feed} (l l' progress progress' rate rate' n n' x : ℕ) → l ≡ l' → progress ≡ progress' → rate ≡ rate' → n ≡ n' → Least l progress rate order fs n x → Least l' progress' rate' order fs n' x
-least_renamed l l' progress progress' rate rate' n n' x is-l is-progress is-rate is-n h = rw (← is-l, ← is-progress, ← is-rate, ← is-n) h
+least_renamed l l' progress progress' rate rate' n n' x is_l is_progress is_rate is_n h = rw (← is_l, ← is_progress, ← is_rate, ← is_n) h

@@ -96,10 +96,10 @@ lcm_multiple_right a b = mod-eq-zero_of_dvd b (dvd-mul_left b (a / gcd a b))
 -- their least common multiple divides each multiple of both
 lcm_divides : (a b m : ℕ) → 0 < a → a ∣ m → b ∣ m → lcm a b ∣ m
 lcm_divides a b m h p q =
-    let by-a : lcm a b * gcd a b ∣ m * a = rw (lcm_times_gcd, mul_comm m a) (mul-dvd-mul_left b a q) in
-    let by-b : lcm a b * gcd a b ∣ m * b = rw lcm_times_gcd (mul-dvd-mul_right a p b) in
+    let by_a : lcm a b * gcd a b ∣ m * a = rw (lcm_times_gcd, mul_comm m a) (mul-dvd-mul_left b a q) in
+    let by_b : lcm a b * gcd a b ∣ m * b = rw lcm_times_gcd (mul-dvd-mul_right a p b) in
     dvd_of_mul-dvd-mul_right (lcm a b) (gcd_positive_left a b h)
-    (gcd_within_divided (suc b) (lcm a b * gcd a b) m a b by-a by-b)
+    (gcd_within_divided (suc b) (lcm a b * gcd a b) m a b by_a by_b)
 
 lcm_from_push : (l : ℕ) (ps : List ℕ) (p : ℕ) → lcm_from l (ps ++ p ∷ []) ≡ lcm (lcm_from l ps) p
 lcm_from_push l [] p = refl

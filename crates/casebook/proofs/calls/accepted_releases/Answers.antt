@@ -55,6 +55,6 @@ returns c =
     let total = length (cards_of n 0 (run o (state first) (present slots))) in
     let done : Counting n total count [] = subst (λ calls. Counting n total count (run o (state c.loop-slot.dispatcher) calls)) (at_drop_all present slots c.loop-slot.slot-index c.loop-slot-test.false) c.loop-slot.invariant.2 in
     let all : count ≡ total = omega (arith, done.1) in
-    let open-d = c.open-dispatcher.ensures in
-    let same : o ≡ opened setup.roster (chosen_order setup.order) (chosen_hold setup.hold) = cc (open-d.taken.0, open-d.taken.1, open-d.taken.2) in
-    all ∙ ap₂ (λ p s. length (cards_of n 0 (run p s (present slots)))) same open-d.state
+    let open_d = c.open-dispatcher.ensures in
+    let same : o ≡ opened setup.roster (chosen_order setup.order) (chosen_hold setup.hold) = cc (open_d.taken.0, open_d.taken.1, open_d.taken.2) in
+    all ∙ ap₂ (λ p s. length (cards_of n 0 (run p s (present slots)))) same open_d.state

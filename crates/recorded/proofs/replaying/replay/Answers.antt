@@ -13,7 +13,7 @@ use Rattle.recorded.proofs.replaying.replay.Goals as goal
 
 -- what was opened with the same roster, order and hold rule
 same_parts : {O H : Type 0} (order : O → Order) (hold : H → Hold) {r r' : Roster} {a a' : O} {h h' : H} → r ≡ r' → a ≡ a' → h ≡ h' → opened r (order a) (hold h) ≡ opened r' (order a') (hold h')
-same_parts order hold is-r is-a is-h = cc
+same_parts order hold is_r is_a is_h = cc
 
 pub loop-call-init : goal.loop-call-init
 loop-call-init g c =
@@ -44,15 +44,15 @@ loop-call-preserved g c =
 pub returns : goal.returns
 returns g c =
     let d = c.open-dispatcher.result in
-    let open-d = c.open-dispatcher.ensures in
+    let open_d = c.open-dispatcher.ensures in
     let o = opened_with g.O.QueueOrder.meaning g.H.HoldRule.meaning d in
     let given = opened c.args.roster (g.O.QueueOrder.meaning c.args.order) (g.H.HoldRule.meaning c.args.hold) in
     let inv = c.loop-call.invariant in
     let run = run_of (vec_items c.loop-call.events) in
-    let same : o ≡ given = same_parts g.O.QueueOrder.meaning g.H.HoldRule.meaning open-d.taken.0 open-d.taken.1 open-d.taken.2 in
+    let same : o ≡ given = same_parts g.O.QueueOrder.meaning g.H.HoldRule.meaning open_d.taken.0 open_d.taken.1 open_d.taken.2 in
     record {
       calls = inv.1 ∙ take_all _ _ c.loop-call-test.false;
-      answers = subst (λ p. Gives p (opening given) run) same (subst (λ s. Gives o s run) open-d.state inv.2);
-      on_time = λ x margin. subst (λ p. OnTime p x run) same (open-d.on_time x (subst (λ p. IsMargin p x) (sym same) margin) run inv.2).0;
+      answers = subst (λ p. Gives p (opening given) run) same (subst (λ s. Gives o s run) open_d.state inv.2);
+      on_time = λ x margin. subst (λ p. OnTime p x run) same (open_d.on_time x (subst (λ p. IsMargin p x) (sym same) margin) run inv.2).0;
       few_picks = subst (λ p. FewPicks p run) same (few_picks o (state d) run inv.2);
     }

@@ -12,7 +12,7 @@ use Rattle.roster.proofs.table.Roster.checked.Goals as goal
 
 -- what was computed, once a hyperperiod is at hand
 hyperperiod_is : (s : Roster) (f : Feed) (spacing l : ℕ) → l ≡ lcm s.hyperperiod spacing → spacing ≡ f.spacing → l ≡ hyperperiod_of (feeds s ++ f ∷ [])
-hyperperiod_is s f spacing l is-l is-spacing = is-l ∙ ap₂ lcm s.common is-spacing ∙ sym (hyperperiod_push (feeds s) f)
+hyperperiod_is s f spacing l is_l is_spacing = is_l ∙ ap₂ lcm s.common is_spacing ∙ sym (hyperperiod_push (feeds s) f)
 
 room : (s : Roster) → s.count < 32 → length (feeds s) < 32
 room s few = omega (arith, feeds_count s)
