@@ -55,13 +55,13 @@ length_moved picks clock k fs [] = refl
 length_moved picks clock k [] (r ∷ rs) = refl
 length_moved picks clock k (f ∷ fs) (r ∷ rs) = ap suc (length_moved picks clock (suc k) fs rs)
 
-get_d_moved : (picks : ℕ → Bool) (clock k : ℕ) (fs : List Feed) (rs : List Kept) (i : ℕ) → i < length fs → i < length rs → get_or (moved picks clock k fs rs) i fresh ≡ stirred (at fs i).spacing clock (picks (k + i)) (get_or rs i fresh)
-get_d_moved picks clock k [] rs i h g = absurd (omega arith)
-get_d_moved picks clock k (f ∷ fs) [] i h g = absurd (omega arith)
-get_d_moved picks clock k (f ∷ fs) (r ∷ rs) zero h g = let z : k + 0 ≡ k = omega arith in ap (λ n. stirred f.spacing clock (picks n) r) (sym z)
-get_d_moved picks clock k (f ∷ fs) (r ∷ rs) (suc i) h g =
+get_or_moved : (picks : ℕ → Bool) (clock k : ℕ) (fs : List Feed) (rs : List Kept) (i : ℕ) → i < length fs → i < length rs → get_or (moved picks clock k fs rs) i fresh ≡ stirred (at fs i).spacing clock (picks (k + i)) (get_or rs i fresh)
+get_or_moved picks clock k [] rs i h g = absurd (omega arith)
+get_or_moved picks clock k (f ∷ fs) [] i h g = absurd (omega arith)
+get_or_moved picks clock k (f ∷ fs) (r ∷ rs) zero h g = let z : k + 0 ≡ k = omega arith in ap (λ n. stirred f.spacing clock (picks n) r) (sym z)
+get_or_moved picks clock k (f ∷ fs) (r ∷ rs) (suc i) h g =
     let z : suc k + i ≡ k + suc i = omega arith in
-    get_d_moved picks clock (suc k) fs rs i (omega arith) (omega arith) ∙ ap (λ n. stirred (at fs i).spacing clock (picks n) (get_or rs i fresh)) z
+    get_or_moved picks clock (suc k) fs rs i (omega arith) (omega arith) ∙ ap (λ n. stirred (at fs i).spacing clock (picks n) (get_or rs i fresh)) z
 
 module _ (o : Opened) where
   -- a record for each feed
@@ -103,7 +103,7 @@ module _ (o : Opened) where
   kept_advance : (s : State) (k : ℕ) → Sized s → k < length o.feeds → kept_at (advance o s) k ≡ stirred (at o.feeds k).spacing (suc s.clock) (chosen o s k) (kept_at s k)
   kept_advance s k sized inside =
       let z : 0 + k ≡ k = omega arith in
-      get_d_moved (chosen o s) (suc s.clock) 0 o.feeds s.kept k inside (omega (arith, sized)) ∙ ap (λ i. stirred (at o.feeds k).spacing (suc s.clock) (chosen o s i) (kept_at s k)) z
+      get_or_moved (chosen o s) (suc s.clock) 0 o.feeds s.kept k inside (omega (arith, sized)) ∙ ap (λ i. stirred (at o.feeds k).spacing (suc s.clock) (chosen o s i) (kept_at s k)) z
 
   abbrev after : ℕ → ℕ → List ℕ → State → Kept
   after k clock costs s = admits (points k) clock costs (stirred (at o.feeds k).spacing clock (chosen o s k) (kept_at s k))

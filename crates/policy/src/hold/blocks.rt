@@ -1,7 +1,7 @@
 ghost use Rattle.std.specs.Prelude.{◌≡◌, true, IfOk};
 ghost use Rattle.refusal.specs.Told.{told, unless, refusal};
 ghost use Rattle.policy.specs.Built.{blocks, blocks_lawful};
-ghost use Rattle.std.proofs.Common.{rules, arith};
+ghost use Rattle.std.proofs.Common.{rules};
 
 use crate::hold::HoldRule;
 use refusal::Refusal;
@@ -30,7 +30,7 @@ impl Blocks {
 impl HoldRule for Blocks {
     ghost meaning = { λ b. blocks b.q };
 
-    ghost unheld = { first_of (Prim.search rules, Prim.grind (arith, Self.row.coded.inj)) };
+    ghost unheld = { Prim.search rules };
 
     fn held(&self, _feed: u32, drawn: u32) -> bool {
         drawn % self.q != 0
