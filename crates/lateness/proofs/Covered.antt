@@ -1,8 +1,8 @@
 -- What the largest values of a function cover.
-use Rattle.std.proofs.Common.{◌≡◌, ℕ, zero, suc, ◌<◌, ◌≤◌, ◌⊎◌, ⊎_elim, arith}
+use Rattle.std.proofs.Common.{◌≡◌, ℕ, zero, suc, ◌+◌, ◌-◌, ◌<◌, ◌≤◌, ◌⊎◌, ⊎_elim, arith}
 use Rattle.sorted.specs.Largest.{largest}
 use Rattle.sorted.proofs.Largest.{largest_push}
-use Rattle.lateness.specs.Sums.{sum}
+use Rattle.lateness.specs.Sums.{sum, only}
 use Rattle.lateness.specs.Instances.{listed, UnheldCovered, HeldCovered, WeightsCovered}
 use Rattle.lateness.proofs.Sums.{sum_add}
 
@@ -20,8 +20,15 @@ weights_covered_lem s some few = largest_covers _ _ _ s.feeds _ (λ k lt. grind 
 
 pub unheld_covered_lem : UnheldCovered
 unheld_covered_lem s unheld first second apart few most =
-    rw (← sum_add) (largest_covers _ _ _ s.feeds _ (λ k lt. grind (arith, unheld k lt)) few)
+    let value : ℕ → ℕ = λ k. only (first k) (s.cost k) + only (second k) (s.stay k) in
+    let covered : sum s.feeds value ≤ largest (s.lanes - 1) (listed s.feeds s.cost) =
+    largest_covers s.cost (λ k. only (first k) 1) value s.feeds (s.lanes - 1) (λ k lt. grind (arith, unheld k lt)) few in
+    rw (← sum_add) covered
 
 pub held_covered_lem : HeldCovered
 held_covered_lem s held first second apart few most =
-    rw (← sum_add) (largest_covers _ _ _ s.feeds _ (λ k lt. grind (arith, held k lt, apart k lt)) (rw (← sum_add) at most))
+    let value : ℕ → ℕ = λ k. only (first k) (s.cost k) + only (second k) (s.stay k) in
+    let size : ℕ → ℕ = λ k. only (first k) 1 + only (second k) 1 in
+    let covered : sum s.feeds value ≤ largest s.lanes (listed s.feeds s.cost) =
+    largest_covers s.cost size value s.feeds s.lanes (λ k lt. grind (arith, held k lt, apart k lt)) (rw (← sum_add) at most) in
+    rw (← sum_add) covered
