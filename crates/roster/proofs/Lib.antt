@@ -1,3 +1,4 @@
+pub mod Shares
 pub mod Multiples
 pub mod Lawful
 pub mod Adding
