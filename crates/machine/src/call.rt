@@ -1,3 +1,5 @@
+use std::fmt;
+
 /// A call on a dispatcher that can change it.
 #[derive(Clone, Copy, PartialEq, Eq, Debug)]
 pub enum Call {
@@ -5,4 +7,13 @@ pub enum Call {
     Release { feed: u32, cost: u32 },
     /// Makes a step, with a list of that many places for its picks.
     Step { room: usize },
+}
+
+impl fmt::Display for Call {
+    fn fmt<W: fmt::Write>(&self, f: &mut fmt::Formatter<W>) -> fmt::Result {
+        match self {
+            Call::Release { feed, cost } => write!(f, "release feed {feed} cost {cost}"),
+            Call::Step { .. } => write!(f, "step"),
+        }
+    }
 }

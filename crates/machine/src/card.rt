@@ -3,7 +3,7 @@ ghost use Rattle.machine.specs.Machine.{ends, lateness};
 
 /// A card that waits: when it was released, how many ticks it takes, how many it has drawn,
 /// and its point, which the order was asked for at the release.
-#[derive(Clone, Copy)]
+#[derive(Clone, Copy, Default)]
 pub struct Card {
     pub release: u32,
     pub cost: u32,

@@ -1,9 +1,24 @@
+use std::fmt;
+
 /// A card that drew in a step: its feed's number, its release, whether that was its last tick,
 /// and how late it then was; the lateness is 0 until it is done.
-#[derive(Clone, Copy, PartialEq, Eq, Debug)]
+#[derive(Clone, Copy, Default, PartialEq, Eq, Debug)]
 pub struct Pick {
     pub feed: u32,
     pub release: u32,
     pub done: bool,
     pub lateness: u32,
+}
+
+impl fmt::Display for Pick {
+    fn fmt<W: fmt::Write>(&self, f: &mut fmt::Formatter<W>) -> fmt::Result {
+        let feed = self.feed;
+        let release = self.release;
+        write!(f, "feed {feed} of tick {release}")?;
+        if self.done {
+            let lateness = self.lateness;
+            write!(f, " done, lateness {lateness}")?;
+        }
+        Ok(())
+    }
 }

@@ -1,6 +1,16 @@
+use std::fmt;
+
 /// A feed: the most ticks that one of its cards takes, and the fewest ticks between two of its releases.
-#[derive(Clone, Copy)]
+#[derive(Clone, Copy, Default)]
 pub struct Feed {
     pub cost: u32,
     pub spacing: u32,
+}
+
+impl fmt::Display for Feed {
+    fn fmt<W: fmt::Write>(&self, f: &mut fmt::Formatter<W>) -> fmt::Result {
+        let cost = self.cost;
+        let spacing = self.spacing;
+        write!(f, "cost {cost} every {spacing}")
+    }
 }
