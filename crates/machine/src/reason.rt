@@ -6,17 +6,17 @@ ghost use Rattle.machine.specs.declared.reason.CallRefusal.{CallRefusal as Reaso
 #[derive(Clone, Copy, PartialEq, Eq, Debug)]
 pub enum CallRefusal {
     /// There is no feed of that number.
-    NoFeed,
+    NoFeed = 21,
     /// The cost is not 1 to the feed's cost.
-    Cost,
+    Cost = 22,
     /// The feed's last accepted release is less than its spacing ago.
-    Sooner,
+    Sooner = 23,
     /// Sixteen cards of the feed wait.
-    Waiting,
+    Waiting = 24,
     /// The clock stands at its end.
-    Clock,
+    Clock = 25,
     /// The list for the picks is shorter than the lane count.
-    List,
+    List = 26,
 }
 
 impl CallRefusal {
@@ -25,27 +25,13 @@ impl CallRefusal {
         ensures value { result ≡ (told self.now).number }
         ensures only { (other : Reason) → (told other).number ≡ result → other ≡ self.now }
     {
-        match self {
-            CallRefusal::NoFeed => 21,
-            CallRefusal::Cost => 22,
-            CallRefusal::Sooner => 23,
-            CallRefusal::Waiting => 24,
-            CallRefusal::Clock => 25,
-            CallRefusal::List => 26,
-        }
+        *self as u8
     }
 
     /// The layer that refuses: 3 for the dispatcher.
     pub fn layer(&self) -> u8
         ensures { result ≡ (told self.now).layer }
     {
-        match self {
-            CallRefusal::NoFeed => 3,
-            CallRefusal::Cost => 3,
-            CallRefusal::Sooner => 3,
-            CallRefusal::Waiting => 3,
-            CallRefusal::Clock => 3,
-            CallRefusal::List => 3,
-        }
+        3
     }
 }

@@ -6,17 +6,17 @@ ghost use Rattle.refusal.specs.declared.reason.Refusal.{Refusal as Reason};
 #[derive(Clone, Copy, PartialEq, Eq, Debug)]
 pub enum Refusal {
     /// The lane count is not 1 to 8.
-    Lanes,
+    Lanes = 11,
     /// The spacing is not 1 to 60,000, or the cost is not 1 to the spacing.
-    Feed,
+    Feed = 12,
     /// The roster has 32 feeds.
-    Full,
+    Full = 13,
     /// The least common multiple of the spacings passes 10,000,000.
-    Hyperperiod,
+    Hyperperiod = 14,
     /// The weights sum to more than lanes × hyperperiod.
-    Overload,
+    Overload = 15,
     /// A setting of an order or a hold rule is out of its range.
-    Setting,
+    Setting = 16,
 }
 
 impl Refusal {
@@ -25,27 +25,13 @@ impl Refusal {
         ensures value { result ≡ (told self.now).number }
         ensures only { (other : Reason) → (told other).number ≡ result → other ≡ self.now }
     {
-        match self {
-            Refusal::Lanes => 11,
-            Refusal::Feed => 12,
-            Refusal::Full => 13,
-            Refusal::Hyperperiod => 14,
-            Refusal::Overload => 15,
-            Refusal::Setting => 16,
-        }
+        *self as u8
     }
 
     /// The layer that refuses: 2 for rosters and settings.
     pub fn layer(&self) -> u8
         ensures { result ≡ (told self.now).layer }
     {
-        match self {
-            Refusal::Lanes => 2,
-            Refusal::Feed => 2,
-            Refusal::Full => 2,
-            Refusal::Hyperperiod => 2,
-            Refusal::Overload => 2,
-            Refusal::Setting => 2,
-        }
+        2
     }
 }
