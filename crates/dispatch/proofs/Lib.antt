@@ -1,7 +1,3 @@
-pub mod Choice
-pub mod FeedTrace
-pub mod Trace
-pub mod Reading
-pub mod Ahead
-pub mod Carried
+pub mod Points
+pub mod Steps
 pub mod Timely

@@ -1,17 +1,11 @@
 -- Worked runs. The first: two lanes, feeds (cost, spacing) (1, 2), (4, 6), (4, 6), first-come, never.
-use Rattle.std.specs.Prelude.{◌≡◌, ℕ, zero, suc, true, false, [], ◌∷◌, map, Some, None}
-use Rattle.policy.specs.Built.{first_come, never}
-use Rattle.dispatch.specs.Machine.{Opened, State, Pick, opening, release_refusal, release, advance, picks}
-use Rattle.dispatch.specs.declared.reason.CallRefusal.TheVariants.{Waiting}
-use Rattle.dispatch.specs.Told.{told}
-
-abbrev pub house : Opened
-house = record {
-  lanes = 2;
-  feeds = record { cost = 1; spacing = 2 } ∷ (record { cost = 4; spacing = 6 } ∷ (record { cost = 4; spacing = 6 } ∷ []));
-  order = first_come;
-  hold = never;
-}
+-- In crates/machine/specs/Example.antt stand what the two runs are opened with (house and crowd) and a pick that is not done (goes_on).
+use Rattle.std.specs.Prelude.{◌≡◌, ℕ, zero, suc, true, [], ◌∷◌, map, Some, None}
+use Rattle.machine.specs.declared.pick.Pick.{Pick}
+use Rattle.machine.specs.declared.reason.CallRefusal.TheVariants.{Waiting}
+use Rattle.machine.specs.Told.{told}
+use Rattle.machine.specs.Example.{house, crowd, goes_on}
+use Rattle.dispatch.specs.Machine.{State, opening, release_refusal, release, advance, picks}
 
 -- Feeds 2 and 3 release at 0 and feed 1 at 1; the states before the five steps, and after them.
 abbrev pub before_1 : State
@@ -32,10 +26,7 @@ before_5 = advance house before_4
 abbrev pub after_5 : State
 after_5 = advance house before_5
 
--- A pick that is not done, and one that is.
-abbrev pub goes_on : ℕ → ℕ → Pick
-goes_on feed release = record { feed = feed; release = release; done = false; lateness = 0 }
-
+-- A pick that is done.
 abbrev pub ends : ℕ → ℕ → ℕ → Pick
 ends feed release lateness = record { feed = feed; release = release; done = true; lateness = lateness }
 
@@ -49,14 +40,6 @@ pub record Listing : Type 0 where
   pub latenesses : map (λ r. r.worst) after_5.kept ≡ 2 ∷ (0 ∷ (0 ∷ []))
 
 -- The second run: two lanes, feeds (1, 1), (100, 200), (100, 200), first-come, never. All release at 0, and feed 1 in each tick.
-abbrev pub crowd : Opened
-crowd = record {
-  lanes = 2;
-  feeds = record { cost = 1; spacing = 1 } ∷ (record { cost = 100; spacing = 200 } ∷ (record { cost = 100; spacing = 200 } ∷ []));
-  order = first_come;
-  hold = never;
-}
-
 -- The state in tick t, with the release of feed 1.
 abbrev pub crowded : ℕ → State
 crowded zero = release (release (release (opening crowd) 1 1) 2 100) 3 100

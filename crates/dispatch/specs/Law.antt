@@ -1,13 +1,12 @@
 -- The law over runs: no accepted card is finished after its latest tick.
-use Rattle.std.specs.Prelude.{◌≡◌, ℕ, ◌+◌, ◌*◌, ◌<◌, ◌≤◌, true, List, [], ◌∷◌, length, None, slice_index_or}
-use Rattle.policy.specs.Order.{Order, Within, Overtaking}
-use Rattle.policy.specs.Hold.{Hold, Unheld}
-use Rattle.roster.specs.declared.table.Roster.{Roster}
-use Rattle.roster.specs.Roster.{feeds}
-use Rattle.roster.specs.Feeds.{all_lawful, hyperperiod_of, weights}
+-- In crates/machine/specs/Law.antt stand Lawful (what every roster, order and hold rule keeps) and opened (what a dispatcher is opened with, by a roster, an order and a hold rule).
+use Rattle.std.specs.Prelude.{◌≡◌, ℕ, ◌+◌, ◌<◌, ◌≤◌, List, [], ◌∷◌, length, None, slice_index_or}
 use Rattle.roster.specs.Margin.{at, Margin}
-use Rattle.dispatch.specs.Machine.{Opened, State, opening, release_refusal, release, step_refusal, advance, picks}
-use Rattle.dispatch.specs.Run.{Event, released, stepped, refused, Accepted, clock_of, cards_of, drawn_of}
+use Rattle.machine.specs.Machine.{Opened}
+use Rattle.machine.specs.Run.{Accepted}
+use Rattle.machine.specs.Law.{Lawful}
+use Rattle.dispatch.specs.Machine.{State, opening, release_refusal, release, step_refusal, advance, picks}
+use Rattle.dispatch.specs.Run.{Event, released, stepped, refused, clock_of, cards_of, drawn_of}
 
 -- The events are those that the machine gives from a state on: each release and step was accepted, each step has its picks, and a refused call changes nothing.
 abbrev pub Gives : Opened → State → List Event → Type 0
@@ -15,16 +14,6 @@ Gives o s [] = Unit {0}
 Gives o s (released n c ∷ es) = (release_refusal o s n c ≡ None) × Gives o (release s n c) es
 Gives o s (stepped ps ∷ es) = (step_refusal o s o.lanes ≡ None) × (ps ≡ picks o s) × Gives o (advance o s) es
 Gives o s (refused ∷ es) = Gives o s es
-
--- What every roster, order and hold rule keeps.
-pub record Lawful (o : Opened) : Type 0 where
-  pub some_lane : 1 ≤ o.lanes
-  pub few_feeds : length o.feeds ≤ 32
-  pub lawful : all_lawful o.feeds ≡ true
-  pub carried : weights (hyperperiod_of o.feeds) o.feeds ≤ o.lanes * hyperperiod_of o.feeds
-  pub within : Within o.order
-  pub overtaking : Overtaking o.order
-  pub unheld : Unheld o.hold
 
 -- Card j of the feed at k, as the run tells.
 abbrev pub card : List Event → ℕ → ℕ → Accepted
@@ -56,7 +45,3 @@ Timely o x = (es : List Event) → Gives o (opening o) es → OnTime o x es × F
 -- The law: that holds under the margin of every lawful roster, order and hold rule.
 abbrev pub RunsOnTime : Type 0
 RunsOnTime = (o : Opened) → Lawful o → (x : ℕ) → Margin o.lanes o.feeds o.order o.hold x → Timely o x
-
--- What a dispatcher is opened with, by a roster and the meanings of an order and a hold rule.
-abbrev pub opened : Roster → Order → Hold → Opened
-opened r order hold = record { lanes = r.lanes; feeds = feeds r; order = order; hold = hold }

@@ -1,4 +1,3 @@
-pub mod Told
 pub mod Machine
 pub mod Run
 pub mod Law

@@ -1,22 +1,17 @@
 -- The machine: what a dispatcher keeps, and what releasing and stepping do to it.
-use Rattle.std.specs.Prelude.{ℕ, zero, suc, ◌+◌, ◌-◌, max, Bool, true, false, cond, not, ◌&&◌, ◌||◌, List, [], ◌∷◌, ◌++◌, map, length, get_or, Some, None, Option, ◌==◌, nat_le, nat_lt, slice_index_or, slice_set}
+-- In crates/machine/specs/Machine.antt stand Opened (what a dispatcher is opened with), apart (whether a feed may release again), ahead (which of two cards is ahead) and those (the numbers that pass a test);
+-- the table of refusals is in crates/machine/specs/Told.antt, and a pick in crates/machine/src/pick.rt.
+use Rattle.std.specs.Prelude.{ℕ, suc, ◌+◌, ◌-◌, max, Bool, true, false, cond, not, ◌&&◌, List, [], ◌∷◌, ◌++◌, map, length, get_or, Some, None, Option, nat_le, nat_lt, slice_index_or, slice_set}
 use Rattle.refusal.specs.Told.{Told, unless, then}
-use Rattle.policy.specs.Order.{Order}
-use Rattle.policy.specs.Hold.{Hold}
 use Rattle.roster.specs.declared.feed.Feed.{Feed}
 use Rattle.roster.specs.Margin.{at}
 use Rattle.sorted.specs.Order.{sort}
 use Rattle.lateness.specs.Sums.{count}
-use Rattle.dispatch.specs.declared.reason.CallRefusal.{CallRefusal}
-use Rattle.dispatch.specs.declared.reason.CallRefusal.TheVariants.{NoFeed, Cost, Sooner, Waiting, Clock}
-use Rattle.dispatch.specs.Told.{told}
-
--- What a dispatcher is opened with: a roster's lanes and feeds, an order and a hold rule.
-pub record Opened : Type 0 where
-  pub lanes : ℕ
-  pub feeds : List Feed
-  pub order : Order
-  pub hold : Hold
+use Rattle.machine.specs.declared.pick.Pick.{Pick}
+use Rattle.machine.specs.declared.reason.CallRefusal.{CallRefusal}
+use Rattle.machine.specs.declared.reason.CallRefusal.TheVariants.{NoFeed, Cost, Sooner, Waiting, Clock}
+use Rattle.machine.specs.Told.{told}
+use Rattle.machine.specs.Machine.{Opened, apart, ahead, those}
 
 -- A card that waits: its release, the ticks that it takes, and the ticks that it has drawn.
 pub record Card : Type 0 where
@@ -46,11 +41,6 @@ opening o = record { clock = 0; kept = map (λ _. fresh) o.feeds }
 -- What is kept of the feed at a place, from 0 on; its number is one more.
 abbrev pub kept_at : State → ℕ → Kept
 kept_at s k = slice_index_or s.kept k fresh
-
--- Whether a feed may release again: it never did, or its spacing has passed since.
-abbrev pub apart : Option ℕ → ℕ → ℕ → Bool
-apart None spacing clock = true
-apart (Some release) spacing clock = nat_le (release + spacing) clock
 
 -- The checks of a release of feed number n and that cost, in their order.
 abbrev pub release_refusal : Opened → State → ℕ → ℕ → Option Told
@@ -84,11 +74,6 @@ ready s k = nat_lt 0 (length (kept_at s k).waiting)
 -- A card that drew in the last tick may be held.
 abbrev pub holds : Opened → State → ℕ → Bool
 holds o s k = (kept_at s k).drew && o.hold.held (k + 1) (front (kept_at s k)).drawn
-
--- Of two cards, by point, spacing, feed and release, the first is ahead: by the smaller point, then the shorter spacing, the lower feed, the earlier release.
-abbrev pub ahead : (point spacing feed release point' spacing' feed' release' : ℕ) → Bool
-ahead point spacing feed release point' spacing' feed' release' =
-    nat_lt point point' || (point == point' && (nat_lt spacing spacing' || (spacing == spacing' && (nat_lt feed feed' || (feed == feed' && nat_lt release release')))))
 
 -- Of two ready feeds, the first card of the first is ahead.
 abbrev pub goes_ahead : Opened → State → ℕ → ℕ → Bool
@@ -129,18 +114,7 @@ moved picks clock k (f ∷ fs) (r ∷ rs) = cond (picks k) (draw f.spacing clock
 abbrev pub advance : Opened → State → State
 advance o s = record { clock = suc s.clock; kept = moved (chosen o s) (suc s.clock) 0 o.feeds s.kept }
 
--- The numbers below n that pass a test, in order.
-abbrev pub those : ℕ → (ℕ → Bool) → List ℕ
-those zero q = []
-those (suc n) q = those n q ++ cond (q n) (n ∷ []) []
-
 -- The pick of a chosen feed: its number, the release of its card, whether that is done, and then its lateness.
-pub record Pick : Type 0 where
-  pub feed : ℕ
-  pub release : ℕ
-  pub done : Bool
-  pub lateness : ℕ
-
 abbrev pub pick : Opened → State → ℕ → Pick
 pick o s k =
     let c = front (kept_at s k) in

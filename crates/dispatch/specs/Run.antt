@@ -1,7 +1,9 @@
 -- Runs: lists of calls with their answers, and what a reader can tell from them alone.
-use Rattle.std.specs.Prelude.{ℕ, zero, suc, ◌+◌, Bool, false, cond, ◌&&◌, ◌||◌, List, [], ◌∷◌, ◌==◌}
+-- In crates/machine/specs/Run.antt stand Accepted (an accepted card, by its release and cost) and picked (whether a card is among the picks).
+use Rattle.std.specs.Prelude.{ℕ, zero, suc, ◌+◌, cond, List, [], ◌∷◌, ◌==◌}
 use Rattle.lateness.specs.Sums.{only}
-use Rattle.dispatch.specs.Machine.{Pick}
+use Rattle.machine.specs.declared.pick.Pick.{Pick}
+use Rattle.machine.specs.Run.{Accepted, picked}
 
 -- A call with its answer: an accepted release of a feed and a cost, an accepted step with its picks, or a call that was refused.
 pub data Event : Type 0 where
@@ -16,22 +18,12 @@ clock_of (released n c ∷ es) = clock_of es
 clock_of (stepped ps ∷ es) = suc (clock_of es)
 clock_of (refused ∷ es) = clock_of es
 
--- An accepted card: its release and its cost.
-pub record Accepted : Type 0 where
-  pub release : ℕ
-  pub cost : ℕ
-
 -- The accepted cards of feed n, in order, where the clock stands at t before the first event.
 abbrev pub cards_of : ℕ → ℕ → List Event → List Accepted
 cards_of n t [] = []
 cards_of n t (released m c ∷ es) = cond (m == n) (record { release = t; cost = c } ∷ cards_of n t es) (cards_of n t es)
 cards_of n t (stepped ps ∷ es) = cards_of n (suc t) es
 cards_of n t (refused ∷ es) = cards_of n t es
-
--- Whether a card, by its feed and release, is among the picks.
-abbrev pub picked : ℕ → ℕ → List Pick → Bool
-picked n r [] = false
-picked n r (p ∷ ps) = (p.feed == n && p.release == r) || picked n r ps
 
 -- The ticks that a card was drawn in the first t ticks.
 abbrev pub drawn_of : ℕ → ℕ → ℕ → List Event → ℕ

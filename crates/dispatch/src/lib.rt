@@ -3,8 +3,7 @@
 
 mod law;
 mod margin;
-mod reason;
 
 pub use law::{crowding_stands, listing_stands, runs_on_time};
+pub use machine::CallRefusal;
 pub use margin::timely_margin;
-pub use reason::CallRefusal;

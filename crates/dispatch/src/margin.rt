@@ -1,6 +1,7 @@
 ghost use Rattle.roster.specs.Margin.{Margin};
 ghost use Rattle.roster.specs.Roster.{feeds};
-ghost use Rattle.dispatch.specs.Law.{Timely, opened};
+ghost use Rattle.machine.specs.Law.{opened};
+ghost use Rattle.dispatch.specs.Law.{Timely};
 
 use policy::{HoldRule, QueueOrder};
 use roster::Roster;

@@ -1,34 +1,15 @@
-use Rattle.std.proofs.Common.{◌*◌, ◌≤◌, subst, arith}
-use Rattle.policy.specs.Order.{Order, Within, Overtaking}
-use Rattle.policy.specs.Hold.{Hold, Unheld}
-use Rattle.roster.specs.declared.table.Roster.{Roster}
-use Rattle.roster.specs.Feeds.{weights}
-use Rattle.roster.specs.Roster.{feeds}
-use Rattle.roster.proofs.Standing.{feeds_count}
-use Rattle.dispatch.specs.Law.{Lawful, opened}
-use Rattle.dispatch.proofs.Timely.{runs_on_time_lem}
+use Rattle.machine.specs.Law.{opened}
+use Rattle.machine.proofs.Timely.{roster_timely}
+use Rattle.dispatch.proofs.Timely.{timely_pointed}
 use Rattle.dispatch.proofs.margin.timely_margin.Goals as goal
-
--- every roster that exists is lawful, and so are orders and hold rules that keep their laws
-roster_lawful : (r : Roster) (order : Order) (hold : Hold) → Within order → Overtaking order → Unheld hold → Lawful (opened r order hold)
-roster_lawful r order hold within overtaking unheld = record {
-  some_lane = r.laned;
-  few_feeds = omega (arith, feeds_count r, r.few);
-  lawful = r.lawful;
-  carried = subst (λ l. weights l (feeds r) ≤ r.lanes * l) r.common r.carried;
-  within = within;
-  overtaking = overtaking;
-  unheld = unheld;
-}
 
 pub returns : goal.returns
 returns g c =
     let r = c.args.roster.now in
-    let order = c.args.order.now in
-    let hold = c.args.hold.now in
+    let order = g.O.QueueOrder.meaning c.args.order.now in
+    let hold = g.H.HoldRule.meaning c.args.hold.now in
     record {
       margin = c.margin.ensures;
-      timely = runs_on_time_lem (opened r (g.O.QueueOrder.meaning order) (g.H.HoldRule.meaning hold))
-          (roster_lawful r (g.O.QueueOrder.meaning order) (g.H.HoldRule.meaning hold) (g.met.O.QueueOrder.within order) (g.met.O.QueueOrder.overtaking order) (g.met.H.HoldRule.unheld hold))
-          c.margin.result c.margin.ensures;
+      timely = timely_pointed (opened r order hold) c.margin.result
+          (roster_timely r order hold (g.met.O.QueueOrder.within c.args.order.now) (g.met.O.QueueOrder.overtaking c.args.order.now) (g.met.H.HoldRule.unheld c.args.hold.now) c.margin.result c.margin.ensures);
     }
