@@ -12,5 +12,5 @@ pub fn timely_margin<O: QueueOrder, H: HoldRule>(roster: &Roster, order: &O, hol
     ensures margin { Margin roster.now.lanes (feeds roster.now) (O.QueueOrder.meaning order.now) (H.HoldRule.meaning hold.now) result }
     ensures timely { Timely (opened roster.now (O.QueueOrder.meaning order.now) (H.HoldRule.meaning hold.now)) result }
 {
-    roster.margin(order, hold)
+    machine::timely_margin(roster, order, hold)
 }

@@ -1,5 +1,0 @@
-use Rattle.std.proofs.Common.{refl}
-use Rattle.machine.proofs.law.crowding_stands.Goals as goal
-
-pub returns : goal.returns
-returns c = record { accepted = refl; refused = refl }
