@@ -1,7 +1,9 @@
-ghost use Rattle.std.specs.Prelude.{◌≡◌, ◌*◌, ◌≤◌, true, length, take};
+ghost use Rattle.std.specs.Prelude.{◌≡◌, ◌*◌, ◌≤◌, true};
+ghost use Rattle.few.specs.Listed.{listed};
 ghost use Rattle.roster.specs.Feeds.{all_lawful, hyperperiod_of, weights};
 
 use crate::feed::Feed;
+use few::Few;
 
 mod adding;
 mod asking;
@@ -11,17 +13,13 @@ mod margin;
 #[derive(Clone, Copy)]
 pub struct Roster {
     lanes: u32,
-    // the feeds are the first `count` places
-    places: [Feed; 32],
-    count: usize,
+    feeds: Few<Feed, 32>,
     // the least common multiple of the spacings
     hyperperiod: u64,
     ghost laned: { 1 ≤ lanes },
     ghost few_lanes: { lanes ≤ 8 },
-    ghost sized: { length places ≡ 32 },
-    ghost few: { count ≤ 32 },
-    ghost lawful: { all_lawful (take count places) ≡ true },
-    ghost common: { hyperperiod ≡ hyperperiod_of (take count places) },
+    ghost lawful: { all_lawful (listed feeds) ≡ true },
+    ghost common: { hyperperiod ≡ hyperperiod_of (listed feeds) },
     ghost short: { hyperperiod ≤ 10000000 },
-    ghost carried: { weights hyperperiod (take count places) ≤ lanes * hyperperiod },
+    ghost carried: { weights hyperperiod (listed feeds) ≤ lanes * hyperperiod },
 }
