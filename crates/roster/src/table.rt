@@ -9,11 +9,14 @@ mod adding;
 mod asking;
 mod margin;
 
+// The most feeds that a roster can have.
+const MOST_FEEDS: usize = 32;
+
 /// A lane count and up to 32 feeds, numbered from 1 in the order of adding. No roster that exists breaks a rule below.
 #[derive(Clone, Copy)]
 pub struct Roster {
     lanes: u32,
-    feeds: Few<Feed, 32>,
+    feeds: Few<Feed, MOST_FEEDS>,
     // the least common multiple of the spacings
     hyperperiod: u64,
     ghost laned: { 1 ≤ lanes },

@@ -5,13 +5,10 @@ ghost use Rattle.roster.specs.Roster.{feeds};
 
 use crate::feed::Feed;
 use crate::multiple::common_multiple;
-use crate::table::Roster;
+use crate::table::{MOST_FEEDS, Roster};
 use crate::weights::weight_of;
 use few::Few;
 use refusal::Refusal;
-
-// The most feeds that a roster can have.
-const MOST_FEEDS: usize = 32;
 
 // The longest hyperperiod.
 const LONGEST: u64 = 10_000_000;

@@ -4,7 +4,7 @@ use Rattle.policy.specs.Hold.{Hold, Unheld}
 use Rattle.roster.specs.declared.table.Roster.{Roster}
 use Rattle.roster.specs.Feeds.{weights}
 use Rattle.roster.specs.Roster.{feeds}
-use Rattle.roster.proofs.Standing.{feeds_count}
+use Rattle.roster.proofs.Standing.{few_feeds}
 use Rattle.dispatch.specs.Law.{Lawful, opened}
 use Rattle.dispatch.proofs.Timely.{runs_on_time_lem}
 use Rattle.dispatch.proofs.margin.timely_margin.Goals as goal
@@ -13,7 +13,7 @@ use Rattle.dispatch.proofs.margin.timely_margin.Goals as goal
 roster_lawful : (r : Roster) (order : Order) (hold : Hold) → Within order → Overtaking order → Unheld hold → Lawful (opened r order hold)
 roster_lawful r order hold within overtaking unheld = record {
   some_lane = r.laned;
-  few_feeds = omega (arith, feeds_count r, r.few);
+  few_feeds = few_feeds r;
   lawful = r.lawful;
   carried = subst (λ l. weights l (feeds r) ≤ r.lanes * l) r.common r.carried;
   within = within;
