@@ -8,7 +8,7 @@ use Rattle.policy.specs.Hold.{Hold, Unheld}
 use Rattle.roster.specs.declared.feed.Feed.{Feed}
 use Rattle.roster.specs.declared.table.Roster.{Roster}
 use Rattle.roster.specs.Roster.{feeds}
-use Rattle.roster.proofs.Standing.{feeds_count}
+use Rattle.roster.proofs.Standing.{few_feeds}
 use Rattle.roster.specs.Feeds.{hyperperiod_of, weight, weights}
 use Rattle.roster.specs.Margin.{at, in_progress, heaviest, sum_to, overtaking_cost, overtaking, Margin}
 use Rattle.lateness.specs.Sums.{sum, count}
@@ -103,7 +103,7 @@ runs_on_time_lem o law x margin es gives = (on_time o law es gives x margin, rea
 roster_lawful : (r : Roster) (order : Order) (hold : Hold) → Within order → Overtaking order → Unheld hold → Lawful (opened r order hold)
 roster_lawful r order hold within overtaking unheld = record {
   some_lane = r.laned;
-  few_feeds = omega (arith, feeds_count r, r.few);
+  few_feeds = few_feeds r;
   lawful = r.lawful;
   carried = subst (λ l. weights l (feeds r) ≤ r.lanes * l) r.common r.carried;
   within = within;

@@ -2,20 +2,17 @@ use crate::{AnyHold, AnyOrder, Blocks, HoldRule, Part, QueueOrder};
 use refusal::Refusal;
 use std::test::Fail;
 
-// The answer, with the number of its refusal in place of the refusal.
-fn numbered<T>(answer: Result<T, Refusal>) -> Result<T, u8> {
-    match answer {
-        Ok(value) => Ok(value),
-        Err(refusal) => Err(refusal.number()),
-    }
+// The number of the refusal, where the answer is one.
+fn refused<T: Drop>(answer: Result<T, Refusal>) -> Option<u8> {
+    answer.err().map(|refusal| refusal.number())
 }
 
 #[test]
 fn a_point_is_the_release_the_due_or_a_part_of_the_way_rounded_down(
     rt: HostRuntime,
 ) -> Result<(), Fail> {
-    let half = AnyOrder::Part(numbered(Part::new(1, 2))?);
-    let most = AnyOrder::Part(numbered(Part::new(999, 1_000))?);
+    let half = AnyOrder::Part(Part::new(1, 2)?);
+    let most = AnyOrder::Part(Part::new(999, 1_000)?);
     // the order, the spacing, the release, the point
     let cases = [
         (AnyOrder::FirstCome, 7, 10, 10),
@@ -37,7 +34,7 @@ fn a_point_is_the_release_the_due_or_a_part_of_the_way_rounded_down(
 
 #[test]
 fn the_longer_spacing_overtakes_unless_the_order_is_by_due(rt: HostRuntime) -> Result<(), Fail> {
-    let half = AnyOrder::Part(numbered(Part::new(1, 2))?);
+    let half = AnyOrder::Part(Part::new(1, 2)?);
     // the order, whether spacing 5 overtakes spacing 4, and spacing 4 itself and spacing 5
     let cases = [
         (AnyOrder::FirstCome, [true, false, false]),
@@ -54,8 +51,8 @@ fn the_longer_spacing_overtakes_unless_the_order_is_by_due(rt: HostRuntime) -> R
 
 #[test]
 fn a_card_is_held_by_the_ticks_it_has_drawn(rt: HostRuntime) -> Result<(), Fail> {
-    let twos = AnyHold::Blocks(numbered(Blocks::new(2))?);
-    let thousands = AnyHold::Blocks(numbered(Blocks::new(1_000))?);
+    let twos = AnyHold::Blocks(Blocks::new(2)?);
+    let thousands = AnyHold::Blocks(Blocks::new(1_000)?);
     // the rule, whether it ever holds, the ticks drawn, whether it holds then
     let cases = [
         (AnyHold::Never, false, 0, false),
@@ -85,7 +82,7 @@ fn settings_out_of_their_range_are_refused(rt: HostRuntime) {
         (1, 2, None),
         (999, 1_000, None),
     ] {
-        assert_eq!(rt; numbered(Part::new(a, b)).err(), number);
+        assert_eq!(rt; refused(Part::new(a, b)), number);
     }
     for (q, number) in [
         (0, Some(16)),
@@ -94,6 +91,6 @@ fn settings_out_of_their_range_are_refused(rt: HostRuntime) {
         (1_000, None),
         (1_001, Some(16)),
     ] {
-        assert_eq!(rt; numbered(Blocks::new(q)).err(), number);
+        assert_eq!(rt; refused(Blocks::new(q)), number);
     }
 }

@@ -3,17 +3,17 @@ ghost use Rattle.roster.specs.declared.feed.Feed.{Feed as AFeed};
 ghost use Rattle.roster.specs.Feeds.{lawful};
 
 use crate::feed::Feed;
+use crate::table::Roster;
+use sorted::Ranked;
 
 mod cost;
-mod largest;
 mod share;
 
 pub use cost::ByCost;
-pub(crate) use largest::sum_of_largest;
 pub use share::ByShare;
 
-/// A feed as it is ranked, the larger first, and summed. The size may depend on the hyperperiod.
-pub trait Measure {
+/// A lawful feed as it is ranked, the larger first, and summed. The size may depend on the roster's hyperperiod.
+pub trait Measure: Ranked + Copy {
     ghost subject: { Self → AFeed };
 
     ghost larger: { AFeed → AFeed → Bool };
@@ -24,7 +24,10 @@ pub trait Measure {
         requires { lawful feed ≡ true }
         ensures { subject result ≡ feed };
 
-    fn size(&self, hyperperiod: u64) -> u64
-        requires { (lawful (subject self.now) ≡ true) × (hyperperiod ≤ 10000000) }
-        ensures { (result ≡ amount hyperperiod (subject self.now)) × (result ≤ 10000000) };
+    fn size(&self, roster: &Roster) -> u64
+        ensures value { result ≡ amount roster.now.hyperperiod (subject self.now) }
+        ensures bound { result ≤ 10000000 };
+
+    // What is larger is ranked first.
+    ghost agrees: { (x y : Self) → Self.before x y ≡ larger (subject x) (subject y) };
 }

@@ -2,12 +2,9 @@ use crate::{Feed, Roster};
 use refusal::Refusal;
 use std::test::Fail;
 
-// The answer, with the number of its refusal in place of the refusal.
-fn numbered<T>(answer: Result<T, Refusal>) -> Result<T, u8> {
-    match answer {
-        Ok(value) => Ok(value),
-        Err(refusal) => Err(refusal.number()),
-    }
+// The number of the refusal, where the answer is one.
+fn refused<T: Drop>(answer: Result<T, Refusal>) -> Option<u8> {
+    answer.err().map(|refusal| refusal.number())
 }
 
 // The cost and the spacing of the feed of that number.
@@ -21,7 +18,7 @@ fn each_refusal_has_its_number_and_the_first_check_that_fails_decides(
     rt: HostRuntime,
 ) -> Result<(), Fail> {
     for (lanes, number) in [(0, Some(11)), (1, None), (8, None), (9, Some(11))] {
-        assert_eq!(rt; numbered(Roster::new(lanes)).err(), number);
+        assert_eq!(rt; refused(Roster::new(lanes)), number);
     }
     // how many feeds one lane has and what each costs at which spacing, the feed to add, the refusal
     let cases = [
@@ -37,16 +34,15 @@ fn each_refusal_has_its_number_and_the_first_check_that_fails_decides(
         (1, (59_999, 59_999), (1, 59_999), Some(15)),
     ];
     for (count, (cost, spacing), (new_cost, new_spacing), number) in cases {
-        let mut roster = numbered(Roster::new(1))?;
+        let mut roster = Roster::new(1)?;
         for _ in 0..count {
-            numbered(roster.add(Feed { cost, spacing }))?;
+            roster.add(Feed { cost, spacing })?;
         }
         assert_eq!(rt;
-            numbered(roster.add(Feed {
+            refused(roster.add(Feed {
                 cost: new_cost,
                 spacing: new_spacing,
-            }))
-            .err(),
+            })),
             number
         );
     }
@@ -55,26 +51,23 @@ fn each_refusal_has_its_number_and_the_first_check_that_fails_decides(
 
 #[test]
 fn a_refused_feed_leaves_the_roster_as_it_was(rt: HostRuntime) -> Result<(), Fail> {
-    let mut roster = numbered(Roster::new(1))?;
+    let mut roster = Roster::new(1)?;
     assert_eq!(rt;
-        numbered(roster.add(Feed {
+        roster.add(Feed {
             cost: 1,
             spacing: 4,
-        }))?,
+        })?,
         1
     );
     assert_eq!(rt;
-        numbered(roster.add(Feed {
+        roster.add(Feed {
             cost: 2,
             spacing: 59_999,
-        }))?,
+        })?,
         2
     );
     for (cost, spacing, number) in [(5, 4, 12), (1, 60_000, 14), (4, 4, 15)] {
-        assert_eq!(rt;
-            numbered(roster.add(Feed { cost, spacing })).err(),
-            Some(number)
-        );
+        assert_eq!(rt; refused(roster.add(Feed { cost, spacing })), Some(number));
         assert_eq!(rt; roster.len(), 2);
         assert_eq!(rt; roster.hyperperiod(), 239_996);
         assert_eq!(rt; asked(&roster, 0), None);

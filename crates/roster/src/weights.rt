@@ -1,24 +1,29 @@
-ghost use Rattle.std.specs.Prelude.{◌≡◌, ◌≤◌, true, length};
-ghost use Rattle.roster.specs.Feeds.{all_lawful, lawful, weight, weights};
+ghost use Rattle.std.specs.Prelude.{◌≡◌, ◌≤◌, true};
+ghost use Rattle.roster.specs.Feeds.{lawful, weight, weights};
+ghost use Rattle.roster.specs.Roster.{feeds};
 
 use crate::feed::Feed;
+use crate::table::Roster;
 
 // A feed's cost in each hyperperiod.
 pub(crate) fn weight_of(feed: Feed, hyperperiod: u64) -> u64
-    requires { (lawful feed ≡ true) × (hyperperiod ≤ 10000000) }
-    ensures { (result ≡ weight hyperperiod feed) × (result ≤ 10000000) }
+    requires { lawful feed ≡ true }
+    ensures value { result ≡ weight hyperperiod feed }
+    ensures bound { result ≤ hyperperiod }
 {
     u64::from(feed.cost) * (hyperperiod / u64::from(feed.spacing))
 }
 
-// The weights of all feeds together.
-pub(crate) fn total_weight(feeds: &[Feed], hyperperiod: u64) -> u64
-    requires { (all_lawful feeds.now ≡ true) × ((length feeds.now ≤ 32) × (hyperperiod ≤ 10000000)) }
-    ensures { (result ≡ weights hyperperiod feeds.now) × (result ≤ 320000000) }
-{
-    let mut total = 0;
-    for feed in feeds {
-        total += weight_of(*feed, hyperperiod);
+impl Roster {
+    // The weights of all feeds together, in a hyperperiod that need not be the roster's own.
+    pub(crate) fn total_weight(&self, hyperperiod: u64) -> u64
+        requires { hyperperiod ≤ 10000000 }
+        ensures value { result ≡ weights hyperperiod (feeds self.now) }
+        ensures bound { result ≤ 320000000 }
+    {
+        self.feeds()
+            .iter()
+            .map(|feed| weight_of(*feed, hyperperiod))
+            .sum()
     }
-    total
 }

@@ -19,7 +19,7 @@ impl Blocks {
         ensures answer { refusal result ≡ unless (blocks_lawful q) (told Refusal.Setting) }
         ensures made { IfOk result (λ b. b.q ≡ q) }
     {
-        if 2 <= q && q <= 1_000 {
+        if (2..=1_000).contains(&q) {
             Ok(Blocks { q })
         } else {
             Err(Refusal::Setting)

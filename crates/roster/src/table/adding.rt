@@ -5,12 +5,10 @@ ghost use Rattle.roster.specs.Roster.{feeds};
 
 use crate::feed::Feed;
 use crate::multiple::common_multiple;
-use crate::table::Roster;
-use crate::weights::{total_weight, weight_of};
+use crate::table::{MOST_FEEDS, Roster};
+use crate::weights::weight_of;
+use few::Few;
 use refusal::Refusal;
-
-// The most feeds that a roster can have.
-const MOST_FEEDS: usize = 32;
 
 // The longest hyperperiod.
 const LONGEST: u64 = 10_000_000;
@@ -19,7 +17,7 @@ const LONGEST: u64 = 10_000_000;
 fn is_lawful(feed: Feed) -> bool
     ensures { result ≡ lawful feed }
 {
-    1 <= feed.spacing && feed.spacing <= 60_000 && 1 <= feed.cost && feed.cost <= feed.spacing
+    (1..=60_000).contains(&feed.spacing) && (1..=feed.spacing).contains(&feed.cost)
 }
 
 impl Roster {
@@ -28,17 +26,12 @@ impl Roster {
         ensures answer { refusal result ≡ lanes_refusal lanes }
         ensures made { IfOk result (λ t. (t.lanes ≡ lanes) × (feeds t ≡ [])) }
     {
-        if lanes < 1 || lanes > 8 {
+        if !(1..=8).contains(&lanes) {
             return Err(Refusal::Lanes);
         }
-        let nothing = Feed {
-            cost: 0,
-            spacing: 0,
-        };
         Ok(Roster {
             lanes,
-            places: [nothing; 32],
-            count: 0,
+            feeds: Few::new(),
             hyperperiod: 1,
         })
     }
@@ -48,7 +41,7 @@ impl Roster {
         ensures answer { refusal result ≡ add_refusal self.now.lanes (feeds self.now) feed }
         ensures made { IfOk result (λ l. l ≡ hyperperiod_of (feeds self.now ++ feed ∷ [])) }
     {
-        if self.count >= MOST_FEEDS {
+        if self.len() >= MOST_FEEDS {
             return Err(Refusal::Full);
         }
         if !is_lawful(feed) {
@@ -58,8 +51,7 @@ impl Roster {
         if hyperperiod > LONGEST {
             return Err(Refusal::Hyperperiod);
         }
-        let weights = total_weight(&self.places[0..self.count], hyperperiod)
-            + weight_of(feed, hyperperiod);
+        let weights = self.total_weight(hyperperiod) + weight_of(feed, hyperperiod);
         if weights > u64::from(self.lanes) * hyperperiod {
             return Err(Refusal::Overload);
         }
@@ -75,9 +67,8 @@ impl Roster {
         ensures unchanged_on_refusal { is_ok result ≡ false → self.new ≡ self.old }
     {
         let hyperperiod = self.checked(feed)?;
-        self.places[self.count] = feed;
-        self.count += 1;
+        self.feeds.push(feed);
         self.hyperperiod = hyperperiod;
-        Ok(self.count as u32)
+        Ok(self.feeds.len() as u32)
     }
 }

@@ -18,24 +18,22 @@ impl Roster {
     pub fn len(&self) -> usize
         ensures { result ≡ length (feeds self.now) }
     {
-        self.count
+        self.feeds.len()
     }
 
     /// All feeds, number 1 first.
     pub fn feeds(&self) -> &[Feed]
         ensures { result.now ≡ feeds self.now }
     {
-        &self.places[0..self.count]
+        self.feeds.as_slice()
     }
 
     /// The feed of that number, or `None` where there is no such feed.
     pub fn feed(&self, number: u32) -> Option<Feed>
         ensures { result ≡ feed_of (feeds self.now) number }
     {
-        if number < 1 || number as usize > self.count {
-            return None;
-        }
-        Some(self.places[number as usize - 1])
+        let before = number.checked_sub(1)?;
+        self.feeds().get(before as usize).copied()
     }
 
     /// The hyperperiod: the least common multiple of the spacings, 1 without feeds.
