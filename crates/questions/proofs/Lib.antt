@@ -1,3 +1,2 @@
-pub mod Building
 pub mod LeastTest
 pub mod Checked

@@ -1,4 +1,4 @@
-//! What a case is about, as plain data.
+//! What a question is about, as plain data.
 use refusal::Refusal;
 use roster::Feed;
 
@@ -6,7 +6,7 @@ use roster::Feed;
 #[derive(Clone, Copy)]
 pub struct Plan {
     pub lanes: u32,
-    pub feeds: [Option<Feed>; 3],
+    pub feeds: &'static [Feed],
 }
 
 /// A queue order by its settings.
@@ -40,7 +40,7 @@ pub enum Question {
 
 /// A question and its answer: a number, or why it is refused.
 #[derive(Clone, Copy)]
-pub struct Case {
-    pub question: Question,
+pub struct Case<Q> {
+    pub question: Q,
     pub answer: Result<u64, Refusal>,
 }

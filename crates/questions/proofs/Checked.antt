@@ -8,21 +8,21 @@ use Rattle.refusal.proofs.Distinct.{same_number}
 use Rattle.policy.specs.Order.{AskedCard}
 use Rattle.roster.specs.Feeds.{hyperperiod_of}
 use Rattle.roster.specs.Margin.{in_progress, heaviest}
-use Rattle.cases.specs.declared.plan.Case.{Case}
-use Rattle.cases.specs.declared.plan.OrderPlan.{OrderPlan}
-use Rattle.cases.specs.declared.plan.Question.{Question}
-use Rattle.cases.specs.declared.plan.Question.TheVariants.{Hyperperiod, Margin, Add, Point}
-use Rattle.cases.specs.Right.{present, order_of, hold_of, question_refusal, Value, OnlyRight, RightTable}
-use Rattle.cases.proofs.LeastTest.{least_test, least_sound, least_unique}
+use Rattle.questions.specs.declared.plan.Case.{Case}
+use Rattle.questions.specs.declared.plan.OrderPlan.{OrderPlan}
+use Rattle.questions.specs.declared.plan.Question.{Question}
+use Rattle.questions.specs.declared.plan.Question.TheVariants.{Hyperperiod, Margin, Add, Point}
+use Rattle.questions.specs.Right.{order_of, hold_of, question_refusal, Value, Right, OnlyRight, RightTable}
+use Rattle.questions.proofs.LeastTest.{least_test, least_sound, least_unique}
 
 -- whether a number is the one that answers a question
 abbrev value_test : Question → ℕ → Bool
-value_test (Hyperperiod p) n = eqb n (hyperperiod_of (present p.feeds))
+value_test (Hyperperiod p) n = eqb n (hyperperiod_of p.feeds.now)
 value_test (Margin p o h) n =
-    let fs = present p.feeds in
+    let fs = p.feeds.now in
     let l = hyperperiod_of fs in
     least_test l (in_progress p.lanes (hold_of h).ever fs) (p.lanes * l - heaviest p.lanes fs) (order_of o) fs (length fs) n
-value_test (Add p f) n = eqb n (length (present p.feeds) + 1)
+value_test (Add p f) n = eqb n (length p.feeds.now + 1)
 value_test (Point o spacing release) n =
     (leb 1 spacing && leb spacing 60000) && (leb release 1000000000 && eqb n ((order_of o).point 1 spacing release))
 
@@ -79,10 +79,10 @@ right_only (Some t) q (Err d) (Err f) h e v =
     let tells : told f ≡ t = cc in
     ap Err (same_number f d (ap (λ u. u.number) tells ∙ sym (eqb-true _ _ (and_parts _ _ h).0)))
 
-abbrev case_test : Case → Bool
+abbrev case_test : Case Question → Bool
 case_test c = right_test (question_refusal c.question) c.question c.answer
 
-all_only_right : (cs : List Case) → list_all case_test cs ≡ true → AllByRecursion (λ c. OnlyRight c.question c.answer) cs
+all_only_right : (cs : List (Case Question)) → list_all case_test cs ≡ true → AllByRecursion (λ c. OnlyRight (Right c.question) c.answer) cs
 all_only_right [] h = tt
 all_only_right (c ∷ cs) h =
     let parts = and_parts (case_test c) (list_all case_test cs) h in
@@ -90,5 +90,5 @@ all_only_right (c ∷ cs) h =
     ((right_sound (question_refusal q) q c.answer parts.0, λ s right. right_only (question_refusal q) q c.answer s parts.0 right.0 right.1), all_only_right cs parts.1)
 
 -- a table whose every case passes the test is right
-pub right_table : (cs : List Case) → list_all case_test cs ≡ true → RightTable cs
+pub right_table : (cs : List (Case Question)) → list_all case_test cs ≡ true → RightTable Right cs
 right_table cs h = record { each = all_only_right cs h }

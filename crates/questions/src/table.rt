@@ -1,86 +1,77 @@
 //! The table of proved cases.
-ghost use Rattle.cases.specs.Right.{RightTable};
+ghost use Rattle.questions.specs.Right.{Right, RightTable};
 
 use crate::plan::{Case, HoldPlan, OrderPlan, Plan, Question};
 use refusal::Refusal;
 use roster::Feed;
 
-// Two lanes with feeds (1, 2), (4, 6) and (4, 6).
-const A: Plan = Plan {
+/// Two lanes with feeds (1, 2), (4, 6) and (4, 6).
+pub const A: Plan = Plan {
     lanes: 2,
-    feeds: [
-        Some(Feed {
+    feeds: &[
+        Feed {
             cost: 1,
             spacing: 2,
-        }),
-        Some(Feed {
+        },
+        Feed {
             cost: 4,
             spacing: 6,
-        }),
-        Some(Feed {
+        },
+        Feed {
             cost: 4,
             spacing: 6,
-        }),
+        },
     ],
 };
 
 // One lane that one feed keeps busy.
 const BUSY: Plan = Plan {
     lanes: 1,
-    feeds: [
-        Some(Feed {
-            cost: 1,
-            spacing: 1,
-        }),
-        None,
-        None,
-    ],
+    feeds: &[Feed {
+        cost: 1,
+        spacing: 1,
+    }],
 };
 
 // One lane and no feeds.
 const EMPTY: Plan = Plan {
     lanes: 1,
-    feeds: [None, None, None],
+    feeds: &[],
 };
 
 // One lane that two feeds keep busy.
 const HALVES: Plan = Plan {
     lanes: 1,
-    feeds: [
-        Some(Feed {
+    feeds: &[
+        Feed {
             cost: 1,
             spacing: 2,
-        }),
-        Some(Feed {
+        },
+        Feed {
             cost: 1,
             spacing: 2,
-        }),
-        None,
+        },
     ],
 };
 
 // One lane and a feed of a long spacing.
 const LONG: Plan = Plan {
     lanes: 1,
-    feeds: [
-        Some(Feed {
-            cost: 1,
-            spacing: 59_999,
-        }),
-        None,
-        None,
-    ],
+    feeds: &[Feed {
+        cost: 1,
+        spacing: 59_999,
+    }],
 };
 
 // More lanes than a roster can have.
 const WIDE: Plan = Plan {
     lanes: 9,
-    feeds: [None, None, None],
+    feeds: &[],
 };
 
 /// The cases. The answer of each is right, and no other answer is.
-pub fn cases() -> [Case; 17]
-    ensures { RightTable result }
+pub fn cases() -> [Case<Question>; 17]
+    ensures { RightTable Right result }
 {
     [
         Case {

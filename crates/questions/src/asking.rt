@@ -1,14 +1,22 @@
 //! Asking: the calls that a question stands for.
-ghost use Rattle.std.specs.Prelude.{◌≡◌, ◌++◌, IfOk};
+ghost use Rattle.std.specs.Prelude.{◌≡◌, IfOk};
 ghost use Rattle.refusal.specs.Told.{refusal};
 ghost use Rattle.policy.specs.Chosen.{chosen_order, chosen_hold};
 ghost use Rattle.roster.specs.Roster.{feeds};
-ghost use Rattle.cases.specs.Right.{present, feeds_refusal, plan_refusal, order_of, order_refusal, hold_of, hold_refusal, Right};
+ghost use Rattle.questions.specs.Right.{plan_refusal, order_of, order_refusal, hold_of, hold_refusal, setup_refusal, SetsUp, Right};
 
 use crate::plan::{HoldPlan, OrderPlan, Plan, Question};
 use policy::{AnyHold, AnyOrder, Blocks, Part, QueueOrder};
 use refusal::Refusal;
 use roster::{Feed, Roster};
+
+/// What a dispatcher is opened with: a roster, an order and a hold rule.
+#[derive(Drop)]
+pub struct Setup {
+    pub roster: Roster,
+    pub order: AnyOrder,
+    pub hold: AnyHold,
+}
 
 // The order of a plan, or why its settings are refused.
 fn choose_order(plan: OrderPlan) -> Result<AnyOrder, Refusal>
@@ -34,26 +42,31 @@ fn choose_hold(plan: HoldPlan) -> Result<AnyHold, Refusal>
     }
 }
 
-// The roster with the feeds that are there added to it, or the first refusal.
-fn add_all(roster: Roster, slots: &[Option<Feed>]) -> Result<Roster, Refusal>
-    ensures answer { refusal result ≡ feeds_refusal roster.lanes (feeds roster) (present slots.now) }
-    ensures made { IfOk result (λ t. (t.lanes ≡ roster.lanes) × (feeds t ≡ feeds roster ++ present slots.now)) }
-{
-    let mut built = roster;
-    for slot in slots {
-        if let Some(feed) = slot {
-            built.add(*feed)?;
-        }
-    }
-    Ok(built)
-}
-
 // The roster of a plan, or the first refusal on the way.
 fn build(plan: Plan) -> Result<Roster, Refusal>
     ensures answer { refusal result ≡ plan_refusal plan }
-    ensures made { IfOk result (λ t. (t.lanes ≡ plan.lanes) × (feeds t ≡ present plan.feeds)) }
+    ensures made { IfOk result (λ t. (t.lanes ≡ plan.lanes) × (feeds t ≡ plan.feeds.now)) }
 {
-    add_all(Roster::new(plan.lanes)?, &plan.feeds)
+    let mut roster = Roster::new(plan.lanes)?;
+    for feed in plan.feeds {
+        roster.add(*feed)?;
+    }
+    Ok(roster)
+}
+
+/// The roster, the order and the hold rule of plans, or the first refusal on the way.
+pub fn set_up(plan: Plan, order: OrderPlan, hold: HoldPlan) -> Result<Setup, Refusal>
+    ensures answer { refusal result ≡ setup_refusal plan order hold }
+    ensures made { IfOk result (λ s. SetsUp plan order hold s) }
+{
+    let roster = build(plan)?;
+    let order = choose_order(order)?;
+    let hold = choose_hold(hold)?;
+    Ok(Setup {
+        roster,
+        order,
+        hold,
+    })
 }
 
 /// Makes the calls that a question stands for, and gives the right answer.
@@ -63,10 +76,8 @@ pub fn ask(question: Question) -> Result<u64, Refusal>
     match question {
         Question::Hyperperiod(plan) => Ok(build(plan)?.hyperperiod()),
         Question::Margin(plan, order, hold) => {
-            let roster = build(plan)?;
-            let order = choose_order(order)?;
-            let hold = choose_hold(hold)?;
-            Ok(u64::from(roster.margin(&order, &hold)))
+            let setup = set_up(plan, order, hold)?;
+            Ok(u64::from(setup.roster.margin(&setup.order, &setup.hold)))
         }
         Question::Add(plan, feed) => {
             let mut roster = build(plan)?;
