@@ -1,98 +1,55 @@
--- A test by computing that a case has its one right answer.
-use Rattle.std.proofs.Common.{◌≡◌, ℕ, ◌+◌, ◌-◌, ◌*◌, Bool, true, false, ◌&&◌, eqb, leb, List, [], ◌∷◌, length, IfOk, Some, None, Ok, Err, Option, Result, sym, refl, ap, ◌∙◌, ap₂, arith}
-use Rattle.std.specs.List.{list_all, AllByRecursion}
-use Rattle.std.proofs.lemmas.Bool.{and_parts, both_ways, eqb-true, leb-true}
-use Rattle.refusal.specs.Told.{Told, told, refusal}
+-- That each case of the table has its one right answer.
+use Rattle.std.proofs.Common.{◌≡◌, ℕ, suc, ◌<◌, List, [], ◌∷◌, ◌++◌, length, get_or, None, Ok, Err, Result, sym, ap, ◌∙◌, subst, arith}
+use Rattle.std.specs.List.{AllByRecursion}
 use Rattle.refusal.specs.declared.reason.Refusal.{Refusal}
-use Rattle.refusal.proofs.Distinct.{same_number}
-use Rattle.policy.specs.Order.{AskedCard}
-use Rattle.roster.specs.Feeds.{hyperperiod_of}
-use Rattle.roster.specs.Margin.{in_progress, heaviest}
-use Rattle.casebook.specs.declared.plan.Case.{Case}
-use Rattle.casebook.specs.declared.plan.OrderPlan.{OrderPlan}
-use Rattle.casebook.specs.declared.plan.Question.{Question}
-use Rattle.casebook.specs.declared.plan.Question.TheVariants.{Hyperperiod, Margin, Add, Point, Accepted}
+use Rattle.questions.specs.declared.plan.Case.{Case}
+use Rattle.questions.specs.declared.plan.Question.{Question as StillQuestion}
+use Rattle.questions.specs.Right.{setup_refusal, OnlyRight, RightTable, Right as StillRight}
+use Rattle.casebook.specs.declared.question.Question.{Question}
+use Rattle.casebook.specs.declared.question.Question.TheVariants.{Still, Accepted}
 use Rattle.casebook.specs.Calls.{accepted}
-use Rattle.casebook.specs.Right.{present, order_of, hold_of, opened_by, question_refusal, Value, OnlyRight, RightTable}
-use Rattle.casebook.proofs.LeastTest.{least_test, least_sound, least_unique}
+use Rattle.casebook.specs.Right.{opened_by, Right}
 
--- whether a number is the one that answers a question
-abbrev value_test : Question → ℕ → Bool
-value_test (Hyperperiod p) n = eqb n (hyperperiod_of (present p.feeds))
-value_test (Margin p o h) n =
-    let fs = present p.feeds in
-    let l = hyperperiod_of fs in
-    least_test l (in_progress p.lanes (hold_of h).ever fs) (p.lanes * l - heaviest p.lanes fs) (order_of o) fs (length fs) n
-value_test (Add p f) n = eqb n (length (present p.feeds) + 1)
-value_test (Point o spacing release) n =
-    (leb 1 spacing && leb spacing 60000) && (leb release 1000000000 && eqb n ((order_of o).point 1 spacing release))
-value_test (Accepted p o h calls) n = eqb n (accepted 1 (opened_by p o h) (present calls))
+-- a case with its one right answer
+abbrev Proved : Case Question → Type 0
+Proved c = OnlyRight (Right c.question) c.answer
 
--- the parts of the test of a point
-point_parts : (o : OrderPlan) (spacing release n : ℕ) → value_test (Point o spacing release) n ≡ true → AskedCard 1 spacing release × (n ≡ (order_of o).point 1 spacing release)
-point_parts o spacing release n h =
-    let front = and_parts (leb 1 spacing && leb spacing 60000) _ h in
-    let range = and_parts (leb 1 spacing) (leb spacing 60000) front.0 in
-    let back = and_parts (leb release 1000000000) (eqb n ((order_of o).point 1 spacing release)) front.1 in (
-      record {
-        source = record { numbered = omega arith; counted = omega arith; spaced = leb-true 1 spacing range.0; short = leb-true spacing 60000 range.1 };
-        early = leb-true release 1000000000 back.0;
-      },
-      eqb-true _ _ back.1,
-    )
+-- a case of a question for which no dispatcher is opened, among the others
+abbrev pub still : Case StillQuestion → Case Question
+still c = record { question = Still c.question; answer = c.answer }
 
-value_sound : (q : Question) (n : ℕ) → value_test q n ≡ true → Value q n
-value_sound (Hyperperiod p) n h = eqb-true _ _ h
-value_sound (Margin p o h) n t = least_sound _ _ _ _ _ _ n t
-value_sound (Add p f) n h = eqb-true _ _ h
-value_sound (Point o spacing release) n h = λ _. (point_parts o spacing release n h).1
-value_sound (Accepted p o h calls) n t = eqb-true _ _ t
+-- a number of accepted releases, where nothing refuses and the machine accepts as many
+abbrev Counts : Question → Result ℕ Refusal → Type 0
+Counts (Accepted p o h calls) (Ok n) = (None ≡ setup_refusal p o h) × (n ≡ accepted 1 (opened_by p o h) calls.now)
+Counts (Accepted p o h calls) (Err e) = ⊥
+Counts (Still q) r = ⊥
 
-value_only : (q : Question) (n m : ℕ) → value_test q n ≡ true → Value q m → m ≡ n
-value_only (Hyperperiod p) n m h v = v ∙ sym (eqb-true _ _ h)
-value_only (Margin p o h) n m t v = least_unique _ _ _ _ _ _ n m (least_sound _ _ _ _ _ _ n t) v
-value_only (Add p f) n m h v = v ∙ sym (eqb-true _ _ h)
-value_only (Point o spacing release) n m h v =
-    let parts = point_parts o spacing release n h in
-    v parts.0 ∙ sym parts.1
-value_only (Accepted p o h calls) n m t v = v ∙ sym (eqb-true _ _ t)
+-- is the one right answer
+counted_right : (q : Question) (r : Result ℕ Refusal) → Counts q r → OnlyRight (Right q) r
+counted_right (Accepted p o h calls) (Ok n) counts = (counts, only)
+  where
+    only : (s : Result ℕ Refusal) → Right (Accepted p o h calls) s → s ≡ Ok n
+    only (Ok m) right = ap Ok (right.1 ∙ sym counts.1)
+    only (Err e) right = cc
+counted_right (Accepted p o h calls) (Err e) counts = absurd counts
+counted_right (Still q) r counts = absurd counts
 
--- whether an answer is the right one: a number where nothing refuses, or the refusal that comes first
-abbrev right_test : Option Told → Question → Result ℕ Refusal → Bool
-right_test None q (Ok n) = value_test q n
-right_test None q (Err e) = false
-right_test (Some t) q (Ok n) = false
-right_test (Some t) q (Err e) = eqb (told e).number t.number && eqb (told e).layer t.layer
+-- the rows that are proved cases of questions without a dispatcher
+still_rows : (cs : List (Case StillQuestion)) (rows : List (Case Question)) → length rows ≡ length cs → ((i : ℕ) (d : Case StillQuestion) (e : Case Question) → i < length cs → get_or rows i e ≡ still (get_or cs i d))
+    → AllByRecursion (λ c. OnlyRight (StillRight c.question) c.answer) cs → AllByRecursion Proved rows
+still_rows [] [] long at all = tt
+still_rows [] (r ∷ rows) long at all = absurd (omega (arith, long))
+still_rows (c ∷ cs) [] long at all = absurd (omega (arith, long))
+still_rows (c ∷ cs) (r ∷ rows) long at all =
+    (subst Proved (sym (at 0 c r (omega arith))) all.0, still_rows cs rows (omega (arith, long)) (λ i d e below. at (suc i) d e (omega (arith, below))) all.1)
 
-right_sound : (o : Option Told) (q : Question) (r : Result ℕ Refusal) → right_test o q r ≡ true → (refusal r ≡ o) × IfOk r (Value q)
-right_sound None q (Ok n) h = (refl, value_sound q n h)
-right_sound None q (Err e) h = absurd (both_ways false refl h)
-right_sound (Some t) q (Ok n) h = absurd (both_ways false refl h)
-right_sound (Some t) q (Err e) h =
-    let parts = and_parts _ _ h in
-    let tells : told e ≡ t = ap₂ (λ number layer. record { number = number; layer = layer }) (eqb-true _ _ parts.0) (eqb-true _ _ parts.1) in
-    (ap Some tells, tt)
+-- those rows, and behind them cases whose numbers of accepted releases were counted
+behind : (rows called : List (Case Question)) → AllByRecursion Proved rows → AllByRecursion (λ c. Counts c.question c.answer) called → AllByRecursion Proved (rows ++ called)
+behind [] [] all more = tt
+behind [] (c ∷ called) all more = (counted_right c.question c.answer more.0, behind [] called tt more.1)
+behind (r ∷ rows) called all more = (all.0, behind rows called all.1 more)
 
-right_only : (o : Option Told) (q : Question) (r s : Result ℕ Refusal) → right_test o q r ≡ true → refusal s ≡ o → IfOk s (Value q) → s ≡ r
-right_only None q (Ok n) (Ok m) h e v = ap Ok (value_only q n m h v)
-right_only None q (Ok n) (Err d) h e v = cc
-right_only None q (Err d) s h e v = absurd (both_ways false refl h)
-right_only (Some t) q (Ok n) s h e v = absurd (both_ways false refl h)
-right_only (Some t) q (Err d) (Ok m) h e v = cc
-right_only (Some t) q (Err d) (Err f) h e v =
-    let tells : told f ≡ t = cc in
-    ap Err (same_number f d (ap (λ u. u.number) tells ∙ sym (eqb-true _ _ (and_parts _ _ h).0)))
-
-abbrev case_test : Case → Bool
-case_test c = right_test (question_refusal c.question) c.question c.answer
-
-all_only_right : (cs : List Case) → list_all case_test cs ≡ true → AllByRecursion (λ c. OnlyRight c.question c.answer) cs
-all_only_right [] h = tt
-all_only_right (c ∷ cs) h =
-    let parts = and_parts (case_test c) (list_all case_test cs) h in
-    let q = c.question in
-    ((right_sound (question_refusal q) q c.answer parts.0, λ s right. right_only (question_refusal q) q c.answer s parts.0 right.0 right.1), all_only_right cs parts.1)
-
--- a table whose every case passes the test is right
-pub right_table : (cs : List Case) → list_all case_test cs ≡ true → RightTable cs
-right_table cs h = record { each = all_only_right cs h }
+-- are a right table
+pub right_table : (cs : List (Case StillQuestion)) (rows called : List (Case Question)) → length rows ≡ length cs → ((i : ℕ) (d : Case StillQuestion) (e : Case Question) → i < length cs → get_or rows i e ≡ still (get_or cs i d))
+    → RightTable StillRight cs → AllByRecursion (λ c. Counts c.question c.answer) called → RightTable Right (rows ++ called)
+right_table cs rows called long at table more = record { each = behind rows called (still_rows cs rows long at table.each) more }

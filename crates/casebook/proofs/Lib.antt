@@ -1,4 +1,3 @@
-pub mod Building
 pub mod Counting
-pub mod LeastTest
+pub mod Joined
 pub mod Checked

@@ -1,95 +1,21 @@
--- The right answer to a question, by the rules of rosters, orders, hold rules and margins.
-use Rattle.std.specs.Prelude.{◌≡◌, ℕ, ◌+◌, List, [], ◌∷◌, ◌++◌, length, IfOk, Some, None, Option, Result}
-use Rattle.std.specs.List.{AllByRecursion}
-use Rattle.refusal.specs.Told.{Told, told, unless, then, refusal}
+-- The right answer to a question, by the rules of rosters, orders, hold rules and margins, and by the machine.
+use Rattle.std.specs.Prelude.{◌≡◌, ℕ, IfOk, Result}
+use Rattle.refusal.specs.Told.{refusal}
 use Rattle.refusal.specs.declared.reason.Refusal.{Refusal}
-use Rattle.refusal.specs.declared.reason.Refusal.TheVariants.{Setting}
-use Rattle.policy.specs.Order.{Order, AskedCard}
-use Rattle.policy.specs.Hold.{Hold}
-use Rattle.policy.specs.Built.{first_come, by_due, part, part_lawful, never, always, blocks, blocks_lawful}
-use Rattle.roster.specs.declared.feed.Feed.{Feed}
-use Rattle.roster.specs.Feeds.{lanes_refusal, add_refusal, hyperperiod_of}
-use Rattle.roster.specs.Margin.{Margin as IsMargin}
+use Rattle.questions.specs.declared.plan.Plan.{Plan}
+use Rattle.questions.specs.declared.plan.OrderPlan.{OrderPlan}
+use Rattle.questions.specs.declared.plan.HoldPlan.{HoldPlan}
+use Rattle.questions.specs.Right.{order_of, hold_of, setup_refusal, Right as StillRight}
 use Rattle.machine.specs.Machine.{Opened}
 use Rattle.casebook.specs.Calls.{accepted}
-use Rattle.casebook.specs.declared.plan.Case.{Case}
-use Rattle.casebook.specs.declared.plan.Plan.{Plan}
-use Rattle.casebook.specs.declared.plan.OrderPlan.{OrderPlan}
-use Rattle.casebook.specs.declared.plan.OrderPlan.TheVariants.{FirstCome, ByDue, Part}
-use Rattle.casebook.specs.declared.plan.HoldPlan.{HoldPlan}
-use Rattle.casebook.specs.declared.plan.HoldPlan.TheVariants.{Never, Always, Blocks}
-use Rattle.casebook.specs.declared.plan.Question.{Question}
-use Rattle.casebook.specs.declared.plan.Question.TheVariants.{Hyperperiod, Margin, Add, Point, Accepted}
+use Rattle.casebook.specs.declared.question.Question.{Question}
+use Rattle.casebook.specs.declared.question.Question.TheVariants.{Still, Accepted}
 
--- What is there, of slots that may be empty.
-abbrev pub present : {X : Type 0} → List (Option X) → List X
-present [] = []
-present (None ∷ rest) = present rest
-present (Some x ∷ rest) = x ∷ present rest
-
--- The first refusal when feeds are added one after the other to those that a roster has.
-abbrev pub feeds_refusal : ℕ → List Feed → List Feed → Option Told
-feeds_refusal lanes had [] = None
-feeds_refusal lanes had (f ∷ fs) = then (add_refusal lanes had f) (feeds_refusal lanes (had ++ f ∷ []) fs)
-
--- The first refusal when a plan's roster is built.
-abbrev pub plan_refusal : Plan → Option Told
-plan_refusal p = then (lanes_refusal p.lanes) (feeds_refusal p.lanes [] (present p.feeds))
-
--- What an order's plan means, and whether its settings are refused.
-abbrev pub order_of : OrderPlan → Order
-order_of FirstCome = first_come
-order_of ByDue = by_due
-order_of (Part a b) = part a b
-
-abbrev pub order_refusal : OrderPlan → Option Told
-order_refusal FirstCome = None
-order_refusal ByDue = None
-order_refusal (Part a b) = unless (part_lawful a b) (told Setting)
-
--- What a hold rule's plan means, and whether its settings are refused.
-abbrev pub hold_of : HoldPlan → Hold
-hold_of Never = never
-hold_of Always = always
-hold_of (Blocks q) = blocks q
-
-abbrev pub hold_refusal : HoldPlan → Option Told
-hold_refusal Never = None
-hold_refusal Always = None
-hold_refusal (Blocks q) = unless (blocks_lawful q) (told Setting)
-
--- The first refusal when a plan's roster is built, and its order and its hold rule are chosen.
-abbrev pub setup_refusal : Plan → OrderPlan → HoldPlan → Option Told
-setup_refusal p o h = then (plan_refusal p) (then (order_refusal o) (hold_refusal h))
-
--- What a dispatcher is then opened with.
+-- What a dispatcher is opened with by plans.
 abbrev pub opened_by : Plan → OrderPlan → HoldPlan → Opened
-opened_by p o h = record { lanes = p.lanes; feeds = present p.feeds; order = order_of o; hold = hold_of h }
-
--- The refusal that a question meets first.
-abbrev pub question_refusal : Question → Option Told
-question_refusal (Hyperperiod p) = plan_refusal p
-question_refusal (Margin p o h) = setup_refusal p o h
-question_refusal (Add p f) = then (plan_refusal p) (add_refusal p.lanes (present p.feeds) f)
-question_refusal (Point o spacing release) = order_refusal o
-question_refusal (Accepted p o h calls) = setup_refusal p o h
-
--- The number that answers a question which meets no refusal.
-abbrev pub Value : Question → ℕ → Type 0
-Value (Hyperperiod p) n = n ≡ hyperperiod_of (present p.feeds)
-Value (Margin p o h) n = IsMargin p.lanes (present p.feeds) (order_of o) (hold_of h) n
-Value (Add p f) n = n ≡ length (present p.feeds) + 1
-Value (Point o spacing release) n = AskedCard 1 spacing release → n ≡ (order_of o).point 1 spacing release
-Value (Accepted p o h calls) n = n ≡ accepted 1 (opened_by p o h) (present calls)
+opened_by p o h = record { lanes = p.lanes; feeds = p.feeds.now; order = order_of o; hold = hold_of h }
 
 -- An answer is right: it refuses as the rules do, and its number is one that they allow.
 abbrev pub Right : Question → Result ℕ Refusal → Type 0
-Right q r = (refusal r ≡ question_refusal q) × IfOk r (Value q)
-
--- An answer is right, and no other is.
-abbrev pub OnlyRight : Question → Result ℕ Refusal → Type 0
-OnlyRight q r = Right q r × ((s : Result ℕ Refusal) → Right q s → s ≡ r)
-
--- Every case of a table has its one right answer.
-pub record RightTable (cases : List Case) : Type 0 where
-  pub each : AllByRecursion (λ c. OnlyRight c.question c.answer) cases
+Right (Still q) r = StillRight q r
+Right (Accepted p o h calls) r = (refusal r ≡ setup_refusal p o h) × IfOk r (λ n. n ≡ accepted 1 (opened_by p o h) calls.now)

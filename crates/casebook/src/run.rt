@@ -1,13 +1,12 @@
 //! A recorded run, printed: the margin, and then each call with its tick and its answer.
-ghost use Rattle.std.specs.Prelude.{◌≡◌, ◌+◌};
+ghost use Rattle.std.specs.Prelude.{◌≡◌, ◌+◌, Some};
 ghost use Rattle.recorded.specs.Event.{event_of};
 ghost use Rattle.casebook.specs.Calls.{latest_of};
+ghost use Rattle.casebook.specs.Words.{line_text};
 
-use crate::ask::set_up;
-use crate::plan::{HoldPlan, OrderPlan};
-use crate::show::write_event;
-use crate::table::{A, RELEASE, STEP};
+use crate::table::{RELEASE, STEP};
 use machine::{Call, timely_margin};
+use questions::{A, HoldPlan, OrderPlan, set_up};
 use recorded::{Event, replay};
 use roster::Feed;
 use std::{fmt, io};
@@ -35,11 +34,16 @@ struct Line {
 }
 
 impl fmt::Display for Line {
+    ghost output = { λ line. Some (line_text line) };
+
     fn fmt<W: fmt::Write>(&self, f: &mut fmt::Formatter<W>) -> fmt::Result {
-        let tick = self.tick;
-        write!(f, "tick {tick}: ")?;
-        write_event(self.event, f)?;
-        if let Some(latest) = self.latest {
+        let Line {
+            tick,
+            event,
+            latest,
+        } = *self;
+        write!(f, "tick {tick}: {event}")?;
+        if let Some(latest) = latest {
             write!(f, ", latest tick {latest}")?;
         }
         Ok(())
@@ -60,10 +64,8 @@ fn latest_tick(event: Event, tick: u32, feeds: &[Feed], margin: u32) -> Option<u
     let Event::Released { feed: number, .. } = event else {
         return None;
     };
-    if number < 1 || number as usize > feeds.len() {
-        return None;
-    }
-    Some(card_latest(feeds[number as usize - 1], tick, margin))
+    let feed = feeds.get((number as usize).checked_sub(1)?)?;
+    Some(card_latest(*feed, tick, margin))
 }
 
 // Prints the events of a run from opening on.
@@ -76,8 +78,8 @@ fn print_events(rt: &HostRuntime, events: &[Event], feeds: &[Feed], margin: u32)
             latest: latest_tick(*event, tick, feeds, margin),
         };
         println!(rt; "{line}")?;
+        // counted along, since only some events are steps; the clock ends far below the largest tick
         if let Event::Stepped { .. } = event {
-            // the clock ends far below the largest tick
             tick = tick.saturating_add(1);
         }
     }
@@ -91,15 +93,9 @@ pub fn print_run(rt: &HostRuntime) -> io::Result<()> {
     match set_up(A, order, hold) {
         Ok(setup) => {
             let margin = timely_margin(&setup.roster, &setup.order, &setup.hold);
-            let feeds = setup
-                .roster
-                .feeds()
-                .iter()
-                .copied()
-                .collect::<Vec<Feed>>(rt.alloc())?;
             let events = replay(rt.alloc(), setup.roster, setup.order, setup.hold, &CALLS)?;
             println!(rt; "run on {A}, under {order} and {hold}: margin {margin}")?;
-            print_events(rt, &events, &feeds, margin)
+            print_events(rt, &events, A.feeds, margin)
         }
         Err(refusal) => {
             let number = refusal.number();

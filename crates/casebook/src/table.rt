@@ -1,29 +1,11 @@
 //! The table of proved cases.
-ghost use Rattle.casebook.specs.Right.{RightTable};
+ghost use Rattle.std.specs.Prelude.{◌≡◌, ◌++◌};
+ghost use Rattle.questions.specs.Right.{RightTable};
+ghost use Rattle.casebook.specs.Right.{Right};
 
-use crate::plan::{Case, HoldPlan, OrderPlan, Plan, Question};
+use crate::question::Question;
 use machine::Call;
-use refusal::Refusal;
-use roster::Feed;
-
-/// Two lanes with feeds (1, 2), (4, 6) and (4, 6).
-pub const A: Plan = Plan {
-    lanes: 2,
-    feeds: [
-        Some(Feed {
-            cost: 1,
-            spacing: 2,
-        }),
-        Some(Feed {
-            cost: 4,
-            spacing: 6,
-        }),
-        Some(Feed {
-            cost: 4,
-            spacing: 6,
-        }),
-    ],
-};
+use questions::{A, Case, HoldPlan, OrderPlan};
 
 /// A release of feed 1.
 pub const RELEASE: Call = Call::Release { feed: 1, cost: 1 };
@@ -31,174 +13,46 @@ pub const RELEASE: Call = Call::Release { feed: 1, cost: 1 };
 /// A step with room for the picks of all lanes.
 pub const STEP: Call = Call::Step { room: 8 };
 
-// One lane that one feed keeps busy.
-const BUSY: Plan = Plan {
-    lanes: 1,
-    feeds: [
-        Some(Feed {
-            cost: 1,
-            spacing: 1,
-        }),
-        None,
-        None,
-    ],
-};
+// The cases for which a dispatcher is opened.
+const CALLED: [Case<Question>; 2] = [
+    Case {
+        question: Question::Accepted(
+            A,
+            OrderPlan::FirstCome,
+            HoldPlan::Never,
+            &[RELEASE, STEP, STEP, RELEASE],
+        ),
+        answer: Ok(2),
+    },
+    Case {
+        question: Question::Accepted(
+            A,
+            OrderPlan::FirstCome,
+            HoldPlan::Never,
+            &[RELEASE, STEP, RELEASE],
+        ),
+        answer: Ok(1),
+    },
+];
 
-// One lane and no feeds.
-const EMPTY: Plan = Plan {
-    lanes: 1,
-    feeds: [None, None, None],
-};
-
-// One lane that two feeds keep busy.
-const HALVES: Plan = Plan {
-    lanes: 1,
-    feeds: [
-        Some(Feed {
-            cost: 1,
-            spacing: 2,
-        }),
-        Some(Feed {
-            cost: 1,
-            spacing: 2,
-        }),
-        None,
-    ],
-};
-
-// One lane and a feed of a long spacing.
-const LONG: Plan = Plan {
-    lanes: 1,
-    feeds: [
-        Some(Feed {
-            cost: 1,
-            spacing: 59_999,
-        }),
-        None,
-        None,
-    ],
-};
-
-// More lanes than a roster can have.
-const WIDE: Plan = Plan {
-    lanes: 9,
-    feeds: [None, None, None],
-};
-
-/// The cases. The answer of each is right, and no other answer is.
-pub fn cases() -> [Case; 19]
-    ensures { RightTable result }
+// The one table behind the other.
+fn joined(still: [Case<Question>; 17], called: [Case<Question>; 2]) -> [Case<Question>; 19]
+    ensures { result ≡ still ++ called }
 {
-    [
-        Case {
-            question: Question::Hyperperiod(A),
-            answer: Ok(6),
-        },
-        Case {
-            question: Question::Margin(A, OrderPlan::FirstCome, HoldPlan::Never),
-            answer: Ok(9),
-        },
-        Case {
-            question: Question::Margin(A, OrderPlan::FirstCome, HoldPlan::Always),
-            answer: Ok(12),
-        },
-        Case {
-            question: Question::Margin(A, OrderPlan::FirstCome, HoldPlan::Blocks(2)),
-            answer: Ok(12),
-        },
-        Case {
-            question: Question::Margin(A, OrderPlan::ByDue, HoldPlan::Never),
-            answer: Ok(3),
-        },
-        Case {
-            question: Question::Margin(A, OrderPlan::ByDue, HoldPlan::Always),
-            answer: Ok(6),
-        },
-        Case {
-            question: Question::Margin(A, OrderPlan::ByDue, HoldPlan::Blocks(2)),
-            answer: Ok(6),
-        },
-        Case {
-            question: Question::Margin(A, OrderPlan::Part(1, 2), HoldPlan::Never),
-            answer: Ok(9),
-        },
-        Case {
-            question: Question::Margin(BUSY, OrderPlan::ByDue, HoldPlan::Never),
-            answer: Ok(0),
-        },
-        Case {
-            question: Question::Add(
-                EMPTY,
-                Feed {
-                    cost: 1,
-                    spacing: 60_000,
-                },
-            ),
-            answer: Ok(1),
-        },
-        Case {
-            question: Question::Add(
-                EMPTY,
-                Feed {
-                    cost: 1,
-                    spacing: 60_001,
-                },
-            ),
-            answer: Err(Refusal::Feed),
-        },
-        Case {
-            question: Question::Point(OrderPlan::Part(1, 2), 7, 10),
-            answer: Ok(13),
-        },
-        Case {
-            question: Question::Hyperperiod(WIDE),
-            answer: Err(Refusal::Lanes),
-        },
-        Case {
-            question: Question::Add(
-                LONG,
-                Feed {
-                    cost: 1,
-                    spacing: 60_000,
-                },
-            ),
-            answer: Err(Refusal::Hyperperiod),
-        },
-        Case {
-            question: Question::Add(
-                HALVES,
-                Feed {
-                    cost: 1,
-                    spacing: 3,
-                },
-            ),
-            answer: Err(Refusal::Overload),
-        },
-        Case {
-            question: Question::Point(OrderPlan::Part(2, 2), 7, 10),
-            answer: Err(Refusal::Setting),
-        },
-        Case {
-            question: Question::Margin(A, OrderPlan::ByDue, HoldPlan::Blocks(1)),
-            answer: Err(Refusal::Setting),
-        },
-        Case {
-            question: Question::Accepted(
-                A,
-                OrderPlan::FirstCome,
-                HoldPlan::Never,
-                [Some(RELEASE), Some(STEP), Some(STEP), Some(RELEASE)],
-            ),
-            answer: Ok(2),
-        },
-        Case {
-            question: Question::Accepted(
-                A,
-                OrderPlan::FirstCome,
-                HoldPlan::Never,
-                [Some(RELEASE), Some(STEP), Some(RELEASE), None],
-            ),
-            answer: Ok(1),
-        },
-    ]
+    let mut all = [called[0]; 19];
+    all[..17].copy_from_slice(&still);
+    all[17..].copy_from_slice(&called);
+    all
+}
+
+/// The cases: those for which no dispatcher is opened, and two for which one is.
+/// The answer of each is right, and no other answer is.
+pub fn cases() -> [Case<Question>; 19]
+    ensures { RightTable Right result }
+{
+    let still = questions::cases().map(|case| Case {
+        question: Question::Still(case.question),
+        answer: case.answer,
+    });
+    joined(still, CALLED)
 }

@@ -1,7 +1,7 @@
 -- Reading byte by byte decides the shape of a line.
-use Rattle.std.proofs.Common.{◌≡◌, ℕ, Bool, true, false, cond, eqb, List, [], ◌∷◌, ◌++◌, sym, refl, ap, ◌∙◌, subst, ⊎_elim, append_assoc, arith}
+use Rattle.std.proofs.Common.{◌≡◌, ℕ, Bool, true, false, ◌&&◌, cond, eqb, List, [], ◌∷◌, ◌++◌, sym, refl, ap, ◌∙◌, subst, append_assoc, arith}
 use Rattle.std.specs.List.{list_all}
-use Rattle.std.proofs.lemmas.Bool.{and_parts, and_from, cases_Bool, both_ways, cond-true, cond-false, eqb-true}
+use Rattle.std.proofs.lemmas.Bool.{and_parts, and_from, both_ways, cond-true, cond-false, eqb-true}
 use Rattle.std.proofs.lemmas.Bool.Decides.{nat_tests}
 use Rattle.forms.specs.Form.{Atom, Item, Form, Shaped, Begins, is_letter, goes_on, is_digit, is_word, is_number, atom_text, atoms_text, item_text, items_text, text, atom_ok, item_ok, ok}
 use Rattle.forms.specs.Form as form
@@ -61,15 +61,14 @@ Left after_inner ys = Outer ys
 Left finished ys = ys ≡ []
 Left nowhere ys = ⊥
 
+-- what is left where a test leads to one of two places
+on_test : {Goal : Type 0} (ys : List ℕ) (test : Bool) (p q : Place) → Left (cond test p q) ys → (test ≡ true → Left p ys → Goal) → (test ≡ false → Left q ys → Goal) → Goal
+on_test ys true p q left met unmet = met refl left
+on_test ys false p q left met unmet = unmet refl left
+
 module _ (b : ℕ) (ys : List ℕ) where
   ended_left : (deep : Bool) → Left (ended deep b) ys → Tail deep (b ∷ ys)
-  ended_left deep left = ⊎_elim
-      (λ is. spaced deep (eqb-true b 32 is) (subst (λ p. Left p ys) (cond-true (eqb b 32) _ _ is) left))
-      (λ other. ⊎_elim
-      (λ is. shut deep (eqb-true b 41 is) (subst (λ p. Left p ys) (cond-false (eqb b 32) _ _ other ∙ cond-true (eqb b 41) _ _ is) left))
-      (λ none. absurd (subst (λ p. Left p ys) (cond-false (eqb b 32) _ _ other ∙ cond-false (eqb b 41) _ _ none) left))
-      (cases_Bool (eqb b 41)))
-      (cases_Bool (eqb b 32))
+  ended_left deep left = on_test ys (eqb b 32) _ _ left (λ is piece. spaced deep (eqb-true b 32 is) piece) (λ _ other. on_test ys (eqb b 41) _ _ other (λ is end. shut deep (eqb-true b 41 is) end) (λ _ none. absurd none))
     where
       spaced : (deep : Bool) → b ≡ 32 → Left (inside deep space) ys → Tail deep (b ∷ ys)
       spaced false is piece = record {
@@ -90,42 +89,32 @@ module _ (b : ℕ) (ys : List ℕ) where
       shut true is left = record { atoms = []; lawful = refl; rest = ys; outer = left; same = ap (λ c. c ∷ ys) is }
 
   -- one byte more in front of bytes that pass
-  longer : (test : ℕ → Bool) (deep : Bool) → test b ≡ true → Run (list_all test) deep ys → Run (list_all test) deep (b ∷ ys)
-  longer test deep is run = record { front = b ∷ run.front; rest = run.rest; lawful = and_from _ _ is run.lawful; tail = run.tail; same = ap (λ zs. b ∷ zs) run.same }
+  longer : (passes more : List ℕ → Bool) (test : Bool) (deep : Bool) → ((zs : List ℕ) → passes (b ∷ zs) ≡ (test && more zs)) → test ≡ true → Run more deep ys → Run passes deep (b ∷ ys)
+  longer passes more test deep means is run = record {
+    front = b ∷ run.front;
+    rest = run.rest;
+    lawful = means run.front ∙ and_from _ _ is run.lawful;
+    tail = run.tail;
+    same = ap (λ zs. b ∷ zs) run.same;
+  }
 
   ends_here : (test : ℕ → Bool) (deep : Bool) → Tail deep (b ∷ ys) → Run (list_all test) deep (b ∷ ys)
   ends_here test deep tail = record { front = []; rest = b ∷ ys; lawful = refl; tail = tail; same = refl }
 
   -- a run that goes on or ends
   run_left : (test : ℕ → Bool) (deep : Bool) (p : Place) → ((zs : List ℕ) → Left p zs → Run (list_all test) deep zs) → Left (cond (test b) p (ended deep b)) ys → Run (list_all test) deep (b ∷ ys)
-  run_left test deep p reads left = ⊎_elim
-      (λ is. longer test deep is (reads ys (subst (λ q. Left q ys) (cond-true (test b) p _ is) left)))
-      (λ other. ends_here test deep (ended_left deep (subst (λ q. Left q ys) (cond-false (test b) p _ other) left)))
-      (cases_Bool (test b))
+  run_left test deep p reads left =
+      on_test ys (test b) p _ left (λ is run. longer (list_all test) (list_all test) (test b) deep (λ _. refl) is (reads ys run)) (λ _ end. ends_here test deep (ended_left deep end))
 
   word_first : (deep : Bool) → is_letter b ≡ true → Left (inside deep at.word) ys → Run is_word deep (b ∷ ys)
-  word_first deep is run = record { front = b ∷ run.front; rest = run.rest; lawful = and_from _ _ is run.lawful; tail = run.tail; same = ap (λ zs. b ∷ zs) run.same }
-
-  number_first : (deep : Bool) → is_digit b ≡ true → Left (inside deep at.number) ys → Run is_number deep (b ∷ ys)
-  number_first deep is run = record { front = b ∷ run.front; rest = run.rest; lawful = and_from _ _ is run.lawful; tail = run.tail; same = ap (λ zs. b ∷ zs) run.same }
+  word_first deep is run = longer is_word (list_all goes_on) (is_letter b) deep (λ _. refl) is run
 
   opened_left : (deep : Bool) → Left (step (inside deep opened) b) ys → Run is_word deep (b ∷ ys)
-  opened_left deep left = ⊎_elim
-      (λ is. word_first deep is (subst (λ q. Left q ys) (cond-true (is_letter b) (inside deep at.word) nowhere is) left))
-      (λ none. absurd (subst (λ q. Left q ys) (cond-false (is_letter b) (inside deep at.word) nowhere none) left))
-      (cases_Bool (is_letter b))
+  opened_left deep left = on_test ys (is_letter b) _ _ left (λ is run. word_first deep is run) (λ _ none. absurd none)
 
   -- what stands after a space begins with a letter, a digit or a bracket
   space_left : (deep : Bool) → Left (step (inside deep space) b) ys → Left (inside deep space) (b ∷ ys)
-  space_left deep left = ⊎_elim
-      (λ is. from_word deep (word_first deep is (subst (λ q. Left q ys) (cond-true (is_letter b) (inside deep at.word) _ is) left)))
-      (λ other.
-      let after = subst (λ q. Left q ys) (cond-false (is_letter b) (inside deep at.word) _ other) left in
-      ⊎_elim
-      (λ is. from_number deep (number_first deep is (subst (λ q. Left q ys) (cond-true (is_digit b) (inside deep at.number) _ is) after)))
-      (λ none. from_bracket deep (subst (λ q. Left q ys) (cond-false (is_digit b) (inside deep at.number) (bracket deep b) none) after))
-      (cases_Bool (is_digit b)))
-      (cases_Bool (is_letter b))
+  space_left deep left = on_test ys (is_letter b) _ _ left (λ is run. from_word deep (word_first deep is run)) (λ _ other. from_other deep other)
     where
       from_word : (deep : Bool) → Run is_word deep (b ∷ ys) → Left (inside deep space) (b ∷ ys)
       from_word false run = record { item = form.atom (form.word run.front); rest = run.rest; lawful = run.lawful; tail = run.tail; same = run.same }
@@ -150,23 +139,22 @@ module _ (b : ℕ) (ys : List ℕ) where
       }
 
       from_bracket : (deep : Bool) → Left (bracket deep b) ys → Left (inside deep space) (b ∷ ys)
-      from_bracket false after = ⊎_elim
-          (λ is. from_inner (eqb-true b 40 is) (subst (λ q. Left q ys) (cond-true (eqb b 40) (inside true opened) nowhere is) after))
-          (λ none. absurd (subst (λ q. Left q ys) (cond-false (eqb b 40) (inside true opened) nowhere none) after))
-          (cases_Bool (eqb b 40))
+      from_bracket false after = on_test ys (eqb b 40) _ _ after (λ is run. from_inner (eqb-true b 40 is) run) (λ _ none. absurd none)
       from_bracket true after = absurd after
 
+      from_other : (deep : Bool) → Left (cond (is_digit b) (inside deep at.number) (bracket deep b)) ys → Left (inside deep space) (b ∷ ys)
+      from_other deep left =
+          on_test ys (is_digit b) _ _ left (λ is run. from_number deep (longer is_number (list_all is_digit) (is_digit b) deep (λ _. refl) is run)) (λ _ after. from_bracket deep after)
+
   start_left : Left (step start b) ys → Shaped (b ∷ ys)
-  start_left left = ⊎_elim
-      (λ is.
-      let run = subst (λ q. Left q ys) (cond-true (eqb b 40) (inside false opened) nowhere is) left in
-      record {
+  start_left left = on_test ys (eqb b 40) _ _ left (λ is run. whole (eqb-true b 40 is) run) (λ _ none. absurd none)
+    where
+      whole : b ≡ 40 → Run is_word false ys → Shaped (b ∷ ys)
+      whole is run = record {
         form = record { head = run.front; items = run.tail.items };
         lawful = and_from _ _ run.lawful run.tail.lawful;
-        same = sym (ap (λ c. c ∷ ys) (eqb-true b 40 is) ∙ ap (λ zs. 40 ∷ zs) (run.same ∙ ap (λ zs. run.front ++ zs) run.tail.same));
-      })
-      (λ none. absurd (subst (λ q. Left q ys) (cond-false (eqb b 40) (inside false opened) nowhere none) left))
-      (cases_Bool (eqb b 40))
+        same = sym (ap (λ c. c ∷ ys) is ∙ ap (λ zs. 40 ∷ zs) (run.same ∙ ap (λ zs. run.front ++ zs) run.tail.same));
+      }
 
   -- what is left before a byte, from what is left after it
   step_left : (p : Place) → Left (step p b) ys → Left p (b ∷ ys)

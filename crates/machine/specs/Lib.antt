@@ -3,3 +3,4 @@ pub mod Machine
 pub mod Run
 pub mod Law
 pub mod Example
+pub mod Words

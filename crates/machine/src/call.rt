@@ -1,3 +1,6 @@
+ghost use Rattle.std.specs.Prelude.{Some};
+ghost use Rattle.machine.specs.Words.{call_text};
+
 use std::fmt;
 
 /// A call on a dispatcher that can change it.
@@ -10,6 +13,8 @@ pub enum Call {
 }
 
 impl fmt::Display for Call {
+    ghost output = { λ call. Some (call_text call) };
+
     fn fmt<W: fmt::Write>(&self, f: &mut fmt::Formatter<W>) -> fmt::Result {
         match self {
             Call::Release { feed, cost } => write!(f, "release feed {feed} cost {cost}"),

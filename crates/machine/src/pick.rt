@@ -1,3 +1,6 @@
+ghost use Rattle.std.specs.Prelude.{Some};
+ghost use Rattle.machine.specs.Words.{pick_text};
+
 use std::fmt;
 
 /// A card that drew in a step: its feed's number, its release, whether that was its last tick,
@@ -11,6 +14,8 @@ pub struct Pick {
 }
 
 impl fmt::Display for Pick {
+    ghost output = { λ pick. Some (pick_text pick) };
+
     fn fmt<W: fmt::Write>(&self, f: &mut fmt::Formatter<W>) -> fmt::Result {
         let feed = self.feed;
         let release = self.release;

@@ -4,7 +4,7 @@ use Rattle.machine.specs.declared.call.Call.{Call}
 use Rattle.machine.specs.declared.call.Call.TheVariants.{Release, Step}
 use Rattle.recorded.specs.declared.event.Event.{Event as Recorded}
 use Rattle.recorded.specs.declared.event.Event.TheVariants.{Released, Stepped, Refused}
-use Rattle.recorded.specs.Picks.{listed}
+use Rattle.few.specs.Listed.{listed}
 use Rattle.machine.specs.Run.{Event, released, stepped, refused}
 use Rattle.machine.specs.Told.{told}
 

@@ -8,5 +8,5 @@ mod replaying;
 mod tests;
 
 pub use calling::make_call;
-pub use event::{Event, Picks};
+pub use event::Event;
 pub use replaying::replay;

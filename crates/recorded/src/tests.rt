@@ -90,7 +90,7 @@ fn told(event: Event) -> (Call, Result<(usize, [Pick; 2]), u8>) {
     match event {
         Event::Released { feed, cost } => (Call::Release { feed, cost }, Ok((0, [BLANK; 2]))),
         Event::Stepped { room, picks } => {
-            let list = picks.list();
+            let list = picks.as_slice();
             let first = list.first().copied().unwrap_or(BLANK);
             let second = list.get(1).copied().unwrap_or(BLANK);
             (Call::Step { room }, Ok((list.len(), [first, second])))

@@ -4,3 +4,4 @@ pub mod Roster
 pub mod Margin
 pub mod Measure
 pub mod Shares
+pub mod Words

@@ -1,0 +1,29 @@
+//! What is asked, and asking it.
+ghost use Rattle.casebook.specs.Right.{Right};
+
+use crate::calls::accepted_releases;
+use machine::Call;
+use questions::{HoldPlan, OrderPlan, Plan, set_up};
+use refusal::Refusal;
+
+/// What is asked.
+#[derive(Clone, Copy)]
+pub enum Question {
+    /// A question for which no dispatcher is opened.
+    Still(questions::Question),
+    /// How many releases of feed 1 are accepted, when these calls are made one after the other on a dispatcher
+    /// that is opened on a roster under an order and a hold rule.
+    Accepted(Plan, OrderPlan, HoldPlan, &'static [Call]),
+}
+
+/// Makes the calls that a question stands for, and gives the right answer.
+pub fn ask(question: Question) -> Result<u64, Refusal>
+    ensures { Right question result }
+{
+    match question {
+        Question::Still(question) => questions::ask(question),
+        Question::Accepted(plan, order, hold, calls) => {
+            Ok(accepted_releases(set_up(plan, order, hold)?, 1, calls))
+        }
+    }
+}

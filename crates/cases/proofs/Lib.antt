@@ -1,3 +1,0 @@
-pub mod Building
-pub mod LeastTest
-pub mod Checked

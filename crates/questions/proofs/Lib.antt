@@ -1,0 +1,2 @@
+pub mod LeastTest
+pub mod Checked

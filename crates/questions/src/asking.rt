@@ -1,0 +1,90 @@
+//! Asking: the calls that a question stands for.
+ghost use Rattle.std.specs.Prelude.{◌≡◌, IfOk};
+ghost use Rattle.refusal.specs.Told.{refusal};
+ghost use Rattle.policy.specs.Chosen.{chosen_order, chosen_hold};
+ghost use Rattle.roster.specs.Roster.{feeds};
+ghost use Rattle.questions.specs.Right.{plan_refusal, order_of, order_refusal, hold_of, hold_refusal, setup_refusal, SetsUp, Right};
+
+use crate::plan::{HoldPlan, OrderPlan, Plan, Question};
+use policy::{AnyHold, AnyOrder, Blocks, Part, QueueOrder};
+use refusal::Refusal;
+use roster::{Feed, Roster};
+
+/// What a dispatcher is opened with: a roster, an order and a hold rule.
+#[derive(Drop)]
+pub struct Setup {
+    pub roster: Roster,
+    pub order: AnyOrder,
+    pub hold: AnyHold,
+}
+
+// The order of a plan, or why its settings are refused.
+fn choose_order(plan: OrderPlan) -> Result<AnyOrder, Refusal>
+    ensures answer { refusal result ≡ order_refusal plan }
+    ensures made { IfOk result (λ o. chosen_order o ≡ order_of plan) }
+{
+    match plan {
+        OrderPlan::FirstCome => Ok(AnyOrder::FirstCome),
+        OrderPlan::ByDue => Ok(AnyOrder::ByDue),
+        OrderPlan::Part(a, b) => Ok(AnyOrder::Part(Part::new(a, b)?)),
+    }
+}
+
+// The hold rule of a plan, or why its settings are refused.
+fn choose_hold(plan: HoldPlan) -> Result<AnyHold, Refusal>
+    ensures answer { refusal result ≡ hold_refusal plan }
+    ensures made { IfOk result (λ h. chosen_hold h ≡ hold_of plan) }
+{
+    match plan {
+        HoldPlan::Never => Ok(AnyHold::Never),
+        HoldPlan::Always => Ok(AnyHold::Always),
+        HoldPlan::Blocks(q) => Ok(AnyHold::Blocks(Blocks::new(q)?)),
+    }
+}
+
+// The roster of a plan, or the first refusal on the way.
+fn build(plan: Plan) -> Result<Roster, Refusal>
+    ensures answer { refusal result ≡ plan_refusal plan }
+    ensures made { IfOk result (λ t. (t.lanes ≡ plan.lanes) × (feeds t ≡ plan.feeds.now)) }
+{
+    let mut roster = Roster::new(plan.lanes)?;
+    for feed in plan.feeds {
+        roster.add(*feed)?;
+    }
+    Ok(roster)
+}
+
+/// The roster, the order and the hold rule of plans, or the first refusal on the way.
+pub fn set_up(plan: Plan, order: OrderPlan, hold: HoldPlan) -> Result<Setup, Refusal>
+    ensures answer { refusal result ≡ setup_refusal plan order hold }
+    ensures made { IfOk result (λ s. SetsUp plan order hold s) }
+{
+    let roster = build(plan)?;
+    let order = choose_order(order)?;
+    let hold = choose_hold(hold)?;
+    Ok(Setup {
+        roster,
+        order,
+        hold,
+    })
+}
+
+/// Makes the calls that a question stands for, and gives the right answer.
+pub fn ask(question: Question) -> Result<u64, Refusal>
+    ensures { Right question result }
+{
+    match question {
+        Question::Hyperperiod(plan) => Ok(build(plan)?.hyperperiod()),
+        Question::Margin(plan, order, hold) => {
+            let setup = set_up(plan, order, hold)?;
+            Ok(u64::from(setup.roster.margin(&setup.order, &setup.hold)))
+        }
+        Question::Add(plan, feed) => {
+            let mut roster = build(plan)?;
+            Ok(u64::from(roster.add(feed)?))
+        }
+        Question::Point(order, spacing, release) => Ok(choose_order(order)?.point(
+            1, spacing, release,
+        )),
+    }
+}
