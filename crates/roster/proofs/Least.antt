@@ -52,7 +52,3 @@ module _ (l progress rate : ℕ) (some : 0 < rate) (order : Order) (fs : List Fe
       let is : fold larger 0 (range_with_len 0 (suc n)) ≡ max before (needs n) =
       ap (fold larger 0) (range_more 0 n) ∙ fold_push larger 0 (range_with_len 0 n) (0 + n) ∙ ap (λ k. max before (needs k)) (zero-add n) in
       rw (is, ← add-one) (least_more n before (least_of_all n))
-
--- the same numbers under other names
-pub least_renamed : {order : Order} {fs : List Feed} (l l' progress progress' rate rate' n x : ℕ) → l ≡ l' → progress ≡ progress' → rate ≡ rate' → Least l progress rate order fs n x → Least l' progress' rate' order fs n x
-least_renamed l l' progress progress' rate rate' n x is_l is_progress is_rate h = rw (← is_l, ← is_progress, ← is_rate) h

@@ -22,10 +22,6 @@ gcd_within_enough (suc n) (suc m) a (suc b) h k =
     let below : a % suc b < suc b = mod-lt a (zero-lt-suc b) in
     gcd_within_enough n m (suc b) (a % suc b) (omega arith) (omega arith)
 
--- no step is left where the second number is zero
-pub gcd_zero : (a : ℕ) → gcd a 0 ≡ a
-gcd_zero a = refl
-
 -- one of Euclid's steps
 pub gcd_step : (a b : ℕ) → 0 < b → gcd a b ≡ gcd b (a % b)
 gcd_step a zero h = absurd (not-suc-le-zero h)
@@ -57,12 +53,9 @@ gcd_within_divided (suc n) d k a (suc b) p q =
     let rest : d ∣ k * (a % suc b) = (dvd-add_iff_right d front).1 (rw parts p) in
     gcd_within_divided n d k (suc b) (a % suc b) q rest
 
--- the greatest common divisor is above zero where either number is
+-- the greatest common divisor is above zero where the first number is
 pub gcd_positive_left : (a b : ℕ) → 0 < a → 0 < gcd a b
 gcd_positive_left a b h = pos_of_dvd_of_pos (gcd_divides_left a b) h
-
-pub gcd_positive_right : (a b : ℕ) → 0 < b → 0 < gcd a b
-gcd_positive_right a b h = pos_of_dvd_of_pos (gcd_divides_right a b) h
 
 -- the least common multiple times the greatest common divisor is the product
 pub lcm_times_gcd : (a b : ℕ) → lcm a b * gcd a b ≡ a * b
@@ -85,13 +78,6 @@ lcm_turned a b =
 
 lcm_divided_left : (a b : ℕ) → a ∣ lcm a b
 lcm_divided_left a b = rw lcm_turned (dvd-mul_right a (b / gcd a b))
-
--- each of the two divides their least common multiple
-pub lcm_multiple_left : (a b : ℕ) → lcm a b % a ≡ 0
-lcm_multiple_left a b = mod-eq-zero_of_dvd a (lcm_divided_left a b)
-
-pub lcm_multiple_right : (a b : ℕ) → lcm a b % b ≡ 0
-lcm_multiple_right a b = mod-eq-zero_of_dvd b (dvd-mul_left b (a / gcd a b))
 
 -- their least common multiple divides each multiple of both
 lcm_divides : (a b m : ℕ) → 0 < a → a ∣ m → b ∣ m → lcm a b ∣ m

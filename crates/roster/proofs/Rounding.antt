@@ -1,5 +1,5 @@
 -- Division rounded up gives the least number that is enough.
-use Rattle.std.proofs.Common.{ℕ, ◌+◌, ◌-◌, ◌*◌, ◌<◌, ◌≤◌, mul_comm, ⊎_elim, add-mul, mul-le-mul_right, mul-le-mul_left, arith}
+use Rattle.std.proofs.Common.{ℕ, ◌+◌, ◌-◌, ◌*◌, ◌<◌, ◌≤◌, ⊎_elim, add-mul, mul-le-mul_right, arith}
 use native.Mathlib.Nat.{mul-sub}
 use Rattle.std.specs.Int.{div_ceil}
 use Rattle.std.proofs.lemmas.Bool.{cases_lt}
@@ -18,6 +18,3 @@ module _ (l needed own rate : ℕ) (some : 0 < rate) where
       (λ (more : x < rounded). absurd (omega (arith, div_ceil_times (l * (needed - own)) rate some, mul-le-mul_right rate more, add-mul x 1 rate, mul-sub l needed own)))
       (λ (le : rounded ≤ x). le)
       (cases_lt x rounded)
-
-  pub rounded_bound : l ≤ rate → rounded ≤ needed
-  rounded_bound h = rounded_least needed (omega (arith, mul-le-mul_left needed h, mul_comm l needed))
