@@ -20,18 +20,18 @@ still c = record { question = Still c.question; answer = c.answer }
 
 -- a number of accepted releases, where nothing refuses and the machine accepts as many
 abbrev Counts : Question → Result ℕ Refusal → Type 0
-Counts (Accepted p o h calls) (Ok n) = (None ≡ setup_refusal p o h) × (n ≡ accepted 1 (opened_by p o h) calls.now)
-Counts (Accepted p o h calls) (Err e) = ⊥
+Counts (Accepted s calls) (Ok n) = (None ≡ setup_refusal s) × (n ≡ accepted 1 (opened_by s) calls.now)
+Counts (Accepted s calls) (Err e) = ⊥
 Counts (Still q) r = ⊥
 
 -- is the one right answer
 counted_right : (q : Question) (r : Result ℕ Refusal) → Counts q r → OnlyRight (Right q) r
-counted_right (Accepted p o h calls) (Ok n) counts = (counts, only)
+counted_right (Accepted s calls) (Ok n) counts = (counts, only)
   where
-    only : (s : Result ℕ Refusal) → Right (Accepted p o h calls) s → s ≡ Ok n
+    only : (r : Result ℕ Refusal) → Right (Accepted s calls) r → r ≡ Ok n
     only (Ok m) right = ap Ok (right.1 ∙ sym counts.1)
     only (Err e) right = cc
-counted_right (Accepted p o h calls) (Err e) counts = absurd counts
+counted_right (Accepted s calls) (Err e) counts = absurd counts
 counted_right (Still q) r counts = absurd counts
 
 -- the rows that are proved cases of questions without a dispatcher

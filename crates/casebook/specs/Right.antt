@@ -2,20 +2,18 @@
 use Rattle.std.specs.Prelude.{◌≡◌, ℕ, IfOk, Result}
 use Rattle.refusal.specs.Told.{refusal}
 use Rattle.refusal.specs.declared.reason.Refusal.{Refusal}
-use Rattle.questions.specs.declared.plan.Plan.{Plan}
-use Rattle.questions.specs.declared.plan.OrderPlan.{OrderPlan}
-use Rattle.questions.specs.declared.plan.HoldPlan.{HoldPlan}
+use Rattle.questions.specs.declared.plan.SetupPlan.{SetupPlan}
 use Rattle.questions.specs.Right.{order_of, hold_of, setup_refusal, Right as StillRight}
 use Rattle.machine.specs.Machine.{Opened}
 use Rattle.casebook.specs.Calls.{accepted}
 use Rattle.casebook.specs.declared.question.Question.{Question}
 use Rattle.casebook.specs.declared.question.Question.TheVariants.{Still, Accepted}
 
--- What a dispatcher is opened with by plans.
-abbrev pub opened_by : Plan → OrderPlan → HoldPlan → Opened
-opened_by p o h = record { lanes = p.lanes; feeds = p.feeds.now; order = order_of o; hold = hold_of h }
+-- What a dispatcher is opened with by a plan.
+abbrev pub opened_by : SetupPlan → Opened
+opened_by s = record { lanes = s.0.lanes; feeds = s.0.feeds.now; order = order_of s.1; hold = hold_of s.2 }
 
 -- An answer is right: it refuses as the rules do, and its number is one that they allow.
 abbrev pub Right : Question → Result ℕ Refusal → Type 0
 Right (Still q) r = StillRight q r
-Right (Accepted p o h calls) r = (refusal r ≡ setup_refusal p o h) × IfOk r (λ n. n ≡ accepted 1 (opened_by p o h) calls.now)
+Right (Accepted s calls) r = (refusal r ≡ setup_refusal s) × IfOk r (λ n. n ≡ accepted 1 (opened_by s) calls.now)

@@ -3,7 +3,7 @@ use Rattle.std.specs.Prelude.{ℕ, List, [], ◌++◌, Option, Some, None, codes
 use Rattle.std.specs.List.{flat_map}
 use Rattle.machine.specs.Words.{call_text}
 use Rattle.recorded.specs.Words.{event_text}
-use Rattle.questions.specs.Words.{plan_text, order_text, hold_text, question_text as still_text}
+use Rattle.questions.specs.Words.{setup_text, question_text as still_text}
 use Rattle.casebook.specs.declared.question.Question.{Question}
 use Rattle.casebook.specs.declared.question.Question.TheVariants.{Still, Accepted}
 use Rattle.casebook.specs.declared.run.Line.{Line}
@@ -11,9 +11,7 @@ use Rattle.casebook.specs.declared.run.Line.{Line}
 -- What is asked for, and of what; the calls stand behind semicolons.
 abbrev pub question_text : Question → List ℕ
 question_text (Still q) = still_text q
-question_text (Accepted p o h calls) =
-    (codes "accepted releases of feed 1 on " ++ (plan_text p ++ (codes ", under " ++ (order_text o ++ (codes " and " ++ hold_text h)))))
-    ++ flat_map (λ call. codes "; " ++ call_text call) calls.now
+question_text (Accepted s calls) = (codes "accepted releases of feed 1 on " ++ setup_text s) ++ flat_map (λ call. codes "; " ++ call_text call) calls.now
 
 -- Behind the tick, what was called and answered, and of an accepted card the latest tick by which it is finished.
 abbrev pub latest_text : Option ℕ → List ℕ

@@ -3,7 +3,7 @@ ghost use Rattle.casebook.specs.Right.{Right};
 
 use crate::calls::accepted_releases;
 use machine::Call;
-use questions::{HoldPlan, OrderPlan, Plan, set_up};
+use questions::{SetupPlan, set_up};
 use refusal::Refusal;
 
 /// What is asked.
@@ -13,7 +13,7 @@ pub enum Question {
     Still(questions::Question),
     /// How many releases of feed 1 are accepted, when these calls are made one after the other on a dispatcher
     /// that is opened on a roster under an order and a hold rule.
-    Accepted(Plan, OrderPlan, HoldPlan, &'static [Call]),
+    Accepted(SetupPlan, &'static [Call]),
 }
 
 /// Makes the calls that a question stands for, and gives the right answer.
@@ -22,8 +22,6 @@ pub fn ask(question: Question) -> Result<u64, Refusal>
 {
     match question {
         Question::Still(question) => questions::ask(question),
-        Question::Accepted(plan, order, hold, calls) => {
-            Ok(accepted_releases(set_up(plan, order, hold)?, 1, calls))
-        }
+        Question::Accepted(plan, calls) => Ok(accepted_releases(set_up(plan)?, 1, calls)),
     }
 }

@@ -4,9 +4,9 @@ ghost use Rattle.recorded.specs.Event.{event_of};
 ghost use Rattle.casebook.specs.Calls.{latest_of};
 ghost use Rattle.casebook.specs.Words.{line_text};
 
-use crate::table::{RELEASE, STEP};
+use crate::table::{FIRST_COME, RELEASE, STEP};
 use machine::{Call, timely_margin};
-use questions::{A, HoldPlan, OrderPlan, set_up};
+use questions::{A, set_up};
 use recorded::{Event, replay};
 use roster::Feed;
 use std::{fmt, io};
@@ -88,18 +88,16 @@ fn print_events(rt: &HostRuntime, events: &[Event], feeds: &[Feed], margin: u32)
 
 /// Records a run on two lanes and three feeds under first-come and never, and prints it with its margin.
 pub fn print_run(rt: &HostRuntime) -> io::Result<()> {
-    let order = OrderPlan::FirstCome;
-    let hold = HoldPlan::Never;
-    match set_up(A, order, hold) {
+    match set_up(FIRST_COME) {
         Ok(setup) => {
             let margin = timely_margin(&setup.roster, &setup.order, &setup.hold);
             let events = replay(rt.alloc(), setup.roster, setup.order, setup.hold, &CALLS)?;
-            println!(rt; "run on {A}, under {order} and {hold}: margin {margin}")?;
+            println!(rt; "run on {FIRST_COME}: margin {margin}")?;
             print_events(rt, &events, A.feeds, margin)
         }
         Err(refusal) => {
             let number = refusal.number();
-            println!(rt; "run on {A}, under {order} and {hold}: refused with {number}")
+            println!(rt; "run on {FIRST_COME}: refused with {number}")
         }
     }
 }

@@ -11,11 +11,8 @@ impl fmt::Display for Question {
     fn fmt<W: fmt::Write>(&self, f: &mut fmt::Formatter<W>) -> fmt::Result {
         match self {
             Question::Still(question) => write!(f, "{question}"),
-            Question::Accepted(plan, order, hold, calls) => {
-                write!(
-                    f,
-                    "accepted releases of feed 1 on {plan}, under {order} and {hold}"
-                )?;
+            Question::Accepted(plan, calls) => {
+                write!(f, "accepted releases of feed 1 on {plan}")?;
                 for call in *calls {
                     write!(f, "; {call}")?;
                 }

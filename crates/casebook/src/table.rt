@@ -5,7 +5,10 @@ ghost use Rattle.casebook.specs.Right.{Right};
 
 use crate::question::Question;
 use machine::Call;
-use questions::{A, Case, HoldPlan, OrderPlan};
+use questions::{A, Case, HoldPlan, OrderPlan, SetupPlan};
+
+/// Two lanes with feeds (1, 2), (4, 6) and (4, 6), under first-come and never.
+pub const FIRST_COME: SetupPlan = SetupPlan(A, OrderPlan::FirstCome, HoldPlan::Never);
 
 /// A release of feed 1.
 pub const RELEASE: Call = Call::Release { feed: 1, cost: 1 };
@@ -16,21 +19,11 @@ pub const STEP: Call = Call::Step { room: 8 };
 // The cases for which a dispatcher is opened.
 const CALLED: [Case<Question>; 2] = [
     Case {
-        question: Question::Accepted(
-            A,
-            OrderPlan::FirstCome,
-            HoldPlan::Never,
-            &[RELEASE, STEP, STEP, RELEASE],
-        ),
+        question: Question::Accepted(FIRST_COME, &[RELEASE, STEP, STEP, RELEASE]),
         answer: Ok(2),
     },
     Case {
-        question: Question::Accepted(
-            A,
-            OrderPlan::FirstCome,
-            HoldPlan::Never,
-            &[RELEASE, STEP, RELEASE],
-        ),
+        question: Question::Accepted(FIRST_COME, &[RELEASE, STEP, RELEASE]),
         answer: Ok(1),
     },
 ];

@@ -18,10 +18,11 @@ use Rattle.questions.proofs.LeastTest.{least_test, least_sound, least_unique}
 -- whether a number is the one that answers a question
 abbrev value_test : Question → ℕ → Bool
 value_test (Hyperperiod p) n = eqb n (hyperperiod_of p.feeds.now)
-value_test (Margin p o h) n =
-    let fs = p.feeds.now in
+value_test (Margin s) n =
+    let lanes = s.0.lanes in
+    let fs = s.0.feeds.now in
     let l = hyperperiod_of fs in
-    least_test l (in_progress p.lanes (hold_of h).ever fs) (p.lanes * l - heaviest p.lanes fs) (order_of o) fs (length fs) n
+    least_test l (in_progress lanes (hold_of s.2).ever fs) (lanes * l - heaviest lanes fs) (order_of s.1) fs (length fs) n
 value_test (Add p f) n = eqb n (length p.feeds.now + 1)
 value_test (Point o spacing release) n =
     (leb 1 spacing && leb spacing 60000) && (leb release 1000000000 && eqb n ((order_of o).point 1 spacing release))
@@ -41,13 +42,13 @@ point_parts o spacing release n h =
 
 value_sound : (q : Question) (n : ℕ) → value_test q n ≡ true → Value q n
 value_sound (Hyperperiod p) n h = eqb-true _ _ h
-value_sound (Margin p o h) n t = least_sound _ _ _ _ _ _ n t
+value_sound (Margin s) n t = least_sound _ _ _ _ _ _ n t
 value_sound (Add p f) n h = eqb-true _ _ h
 value_sound (Point o spacing release) n h = λ _. (point_parts o spacing release n h).1
 
 value_only : (q : Question) (n m : ℕ) → value_test q n ≡ true → Value q m → m ≡ n
 value_only (Hyperperiod p) n m h v = v ∙ sym (eqb-true _ _ h)
-value_only (Margin p o h) n m t v = least_unique _ _ _ _ _ _ n m (least_sound _ _ _ _ _ _ n t) v
+value_only (Margin s) n m t v = least_unique _ _ _ _ _ _ n m (least_sound _ _ _ _ _ _ n t) v
 value_only (Add p f) n m h v = v ∙ sym (eqb-true _ _ h)
 value_only (Point o spacing release) n m h v =
     let parts = point_parts o spacing release n h in

@@ -19,6 +19,7 @@ use Rattle.questions.specs.declared.plan.OrderPlan.{OrderPlan}
 use Rattle.questions.specs.declared.plan.OrderPlan.TheVariants.{FirstCome, ByDue, Part}
 use Rattle.questions.specs.declared.plan.HoldPlan.{HoldPlan}
 use Rattle.questions.specs.declared.plan.HoldPlan.TheVariants.{Never, Always, Blocks}
+use Rattle.questions.specs.declared.plan.SetupPlan.{SetupPlan}
 use Rattle.questions.specs.declared.plan.Question.{Question}
 use Rattle.questions.specs.declared.plan.Question.TheVariants.{Hyperperiod, Margin, Add, Point}
 
@@ -53,28 +54,28 @@ hold_refusal Never = None
 hold_refusal Always = None
 hold_refusal (Blocks q) = unless (blocks_lawful q) (told Setting)
 
--- The first refusal when a plan's roster is built, and its order and its hold rule are chosen.
-abbrev pub setup_refusal : Plan → OrderPlan → HoldPlan → Option Told
-setup_refusal p o h = then (plan_refusal p) (then (order_refusal o) (hold_refusal h))
+-- The first refusal when a roster is built, and its order and its hold rule are chosen.
+abbrev pub setup_refusal : SetupPlan → Option Told
+setup_refusal s = then (plan_refusal s.0) (then (order_refusal s.1) (hold_refusal s.2))
 
--- What is then made: the plan's roster, the order and the hold rule.
-pub record SetsUp (p : Plan) (o : OrderPlan) (h : HoldPlan) (s : Setup) : Type 0 where
-  pub lanes : s.roster.lanes ≡ p.lanes
-  pub added : feeds s.roster ≡ p.feeds.now
-  pub order : chosen_order s.order ≡ order_of o
-  pub hold : chosen_hold s.hold ≡ hold_of h
+-- What is then made: the plan's roster, order and hold rule.
+pub record SetsUp (p : SetupPlan) (s : Setup) : Type 0 where
+  pub lanes : s.roster.lanes ≡ p.0.lanes
+  pub added : feeds s.roster ≡ p.0.feeds.now
+  pub order : chosen_order s.order ≡ order_of p.1
+  pub hold : chosen_hold s.hold ≡ hold_of p.2
 
 -- The refusal that a question meets first.
 abbrev pub question_refusal : Question → Option Told
 question_refusal (Hyperperiod p) = plan_refusal p
-question_refusal (Margin p o h) = setup_refusal p o h
+question_refusal (Margin s) = setup_refusal s
 question_refusal (Add p f) = then (plan_refusal p) (add_refusal p.lanes p.feeds.now f)
 question_refusal (Point o spacing release) = order_refusal o
 
 -- The number that answers a question which meets no refusal.
 abbrev pub Value : Question → ℕ → Type 0
 Value (Hyperperiod p) n = n ≡ hyperperiod_of p.feeds.now
-Value (Margin p o h) n = IsMargin p.lanes p.feeds.now (order_of o) (hold_of h) n
+Value (Margin s) n = IsMargin s.0.lanes s.0.feeds.now (order_of s.1) (hold_of s.2) n
 Value (Add p f) n = n ≡ length p.feeds.now + 1
 Value (Point o spacing release) n = AskedCard 1 spacing release → n ≡ (order_of o).point 1 spacing release
 

@@ -9,6 +9,7 @@ use Rattle.questions.specs.declared.plan.OrderPlan.{OrderPlan}
 use Rattle.questions.specs.declared.plan.OrderPlan.TheVariants.{FirstCome, ByDue, Part}
 use Rattle.questions.specs.declared.plan.HoldPlan.{HoldPlan}
 use Rattle.questions.specs.declared.plan.HoldPlan.TheVariants.{Never, Always, Blocks}
+use Rattle.questions.specs.declared.plan.SetupPlan.{SetupPlan}
 use Rattle.questions.specs.declared.plan.Question.{Question}
 use Rattle.questions.specs.declared.plan.Question.TheVariants.{Hyperperiod, Margin, Add, Point}
 
@@ -30,10 +31,14 @@ hold_text Never = codes "never"
 hold_text Always = codes "always"
 hold_text (Blocks q) = codes "blocks " ++ decimal q
 
+-- A roster under an order and a hold rule.
+abbrev pub setup_text : SetupPlan → List ℕ
+setup_text s = plan_text s.0 ++ (codes ", under " ++ (order_text s.1 ++ (codes " and " ++ hold_text s.2)))
+
 -- A question: what is asked for, and of what.
 abbrev pub question_text : Question → List ℕ
 question_text (Hyperperiod p) = codes "hyperperiod of " ++ plan_text p
-question_text (Margin p o h) = codes "margin of " ++ (plan_text p ++ (codes ", under " ++ (order_text o ++ (codes " and " ++ hold_text h))))
+question_text (Margin s) = codes "margin of " ++ setup_text s
 question_text (Add p f) = codes "number of a feed with " ++ (feed_text f ++ (codes ", added to " ++ plan_text p))
 question_text (Point o spacing release) =
     codes "point under " ++ (order_text o ++ (codes " of a card released at " ++ (decimal release ++ (codes ", with spacing " ++ decimal spacing))))

@@ -5,7 +5,7 @@ ghost use Rattle.policy.specs.Chosen.{chosen_order, chosen_hold};
 ghost use Rattle.roster.specs.Roster.{feeds};
 ghost use Rattle.questions.specs.Right.{plan_refusal, order_of, order_refusal, hold_of, hold_refusal, setup_refusal, SetsUp, Right};
 
-use crate::plan::{HoldPlan, OrderPlan, Plan, Question};
+use crate::plan::{HoldPlan, OrderPlan, Plan, Question, SetupPlan};
 use policy::{AnyHold, AnyOrder, Blocks, Part, QueueOrder};
 use refusal::Refusal;
 use roster::{Feed, Roster};
@@ -54,18 +54,16 @@ fn build(plan: Plan) -> Result<Roster, Refusal>
     Ok(roster)
 }
 
-/// The roster, the order and the hold rule of plans, or the first refusal on the way.
-pub fn set_up(plan: Plan, order: OrderPlan, hold: HoldPlan) -> Result<Setup, Refusal>
-    ensures answer { refusal result ≡ setup_refusal plan order hold }
-    ensures made { IfOk result (λ s. SetsUp plan order hold s) }
+/// The roster, the order and the hold rule of a plan, or the first refusal on the way.
+pub fn set_up(plan: SetupPlan) -> Result<Setup, Refusal>
+    ensures answer { refusal result ≡ setup_refusal plan }
+    ensures made { IfOk result (λ s. SetsUp plan s) }
 {
-    let roster = build(plan)?;
-    let order = choose_order(order)?;
-    let hold = choose_hold(hold)?;
+    let SetupPlan(roster, order, hold) = plan;
     Ok(Setup {
-        roster,
-        order,
-        hold,
+        roster: build(roster)?,
+        order: choose_order(order)?,
+        hold: choose_hold(hold)?,
     })
 }
 
@@ -75,8 +73,8 @@ pub fn ask(question: Question) -> Result<u64, Refusal>
 {
     match question {
         Question::Hyperperiod(plan) => Ok(build(plan)?.hyperperiod()),
-        Question::Margin(plan, order, hold) => {
-            let setup = set_up(plan, order, hold)?;
+        Question::Margin(plan) => {
+            let setup = set_up(plan)?;
             Ok(u64::from(setup.roster.margin(&setup.order, &setup.hold)))
         }
         Question::Add(plan, feed) => {

@@ -7,5 +7,5 @@ mod show;
 mod table;
 
 pub use asking::{Setup, ask, set_up};
-pub use plan::{Case, HoldPlan, OrderPlan, Plan, Question};
+pub use plan::{Case, HoldPlan, OrderPlan, Plan, Question, SetupPlan};
 pub use table::{A, cases};

@@ -25,13 +25,17 @@ pub enum HoldPlan {
     Blocks(u32),
 }
 
+/// What a dispatcher is to be opened with: a roster, an order and a hold rule.
+#[derive(Clone, Copy)]
+pub struct SetupPlan(pub Plan, pub OrderPlan, pub HoldPlan);
+
 /// What is asked.
 #[derive(Clone, Copy)]
 pub enum Question {
     /// The hyperperiod of a roster.
     Hyperperiod(Plan),
     /// The margin of a roster under an order and a hold rule.
-    Margin(Plan, OrderPlan, HoldPlan),
+    Margin(SetupPlan),
     /// The number that one feed more has once it is added.
     Add(Plan, Feed),
     /// The point of a card of feed 1, by its feed's spacing and its release.

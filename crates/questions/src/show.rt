@@ -1,9 +1,9 @@
 //! Questions in words.
 ghost use Rattle.std.specs.Prelude.{Some};
 ghost use Rattle.std.specs.Fmt.{◌++?◌};
-ghost use Rattle.questions.specs.Words.{plan_text, order_text, hold_text, question_text, answer_text};
+ghost use Rattle.questions.specs.Words.{plan_text, order_text, hold_text, setup_text, question_text, answer_text};
 
-use crate::plan::{Case, HoldPlan, OrderPlan, Plan, Question};
+use crate::plan::{Case, HoldPlan, OrderPlan, Plan, Question, SetupPlan};
 use std::fmt;
 
 impl fmt::Display for Plan {
@@ -45,15 +45,22 @@ impl fmt::Display for HoldPlan {
     }
 }
 
+impl fmt::Display for SetupPlan {
+    ghost output = { λ plan. Some (setup_text plan) };
+
+    fn fmt<W: fmt::Write>(&self, f: &mut fmt::Formatter<W>) -> fmt::Result {
+        let SetupPlan(roster, order, hold) = self;
+        write!(f, "{roster}, under {order} and {hold}")
+    }
+}
+
 impl fmt::Display for Question {
     ghost output = { λ question. Some (question_text question) };
 
     fn fmt<W: fmt::Write>(&self, f: &mut fmt::Formatter<W>) -> fmt::Result {
         match self {
             Question::Hyperperiod(plan) => write!(f, "hyperperiod of {plan}"),
-            Question::Margin(plan, order, hold) => {
-                write!(f, "margin of {plan}, under {order} and {hold}")
-            }
+            Question::Margin(plan) => write!(f, "margin of {plan}"),
             Question::Add(plan, feed) => {
                 write!(f, "number of a feed with {feed}, added to {plan}")
             }

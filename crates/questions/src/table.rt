@@ -1,7 +1,7 @@
 //! The table of proved cases.
 ghost use Rattle.questions.specs.Right.{Right, RightTable};
 
-use crate::plan::{Case, HoldPlan, OrderPlan, Plan, Question};
+use crate::plan::{Case, HoldPlan, OrderPlan, Plan, Question, SetupPlan};
 use refusal::Refusal;
 use roster::Feed;
 
@@ -79,35 +79,35 @@ pub fn cases() -> [Case<Question>; 17]
             answer: Ok(6),
         },
         Case {
-            question: Question::Margin(A, OrderPlan::FirstCome, HoldPlan::Never),
+            question: Question::Margin(SetupPlan(A, OrderPlan::FirstCome, HoldPlan::Never)),
             answer: Ok(9),
         },
         Case {
-            question: Question::Margin(A, OrderPlan::FirstCome, HoldPlan::Always),
+            question: Question::Margin(SetupPlan(A, OrderPlan::FirstCome, HoldPlan::Always)),
             answer: Ok(12),
         },
         Case {
-            question: Question::Margin(A, OrderPlan::FirstCome, HoldPlan::Blocks(2)),
+            question: Question::Margin(SetupPlan(A, OrderPlan::FirstCome, HoldPlan::Blocks(2))),
             answer: Ok(12),
         },
         Case {
-            question: Question::Margin(A, OrderPlan::ByDue, HoldPlan::Never),
+            question: Question::Margin(SetupPlan(A, OrderPlan::ByDue, HoldPlan::Never)),
             answer: Ok(3),
         },
         Case {
-            question: Question::Margin(A, OrderPlan::ByDue, HoldPlan::Always),
+            question: Question::Margin(SetupPlan(A, OrderPlan::ByDue, HoldPlan::Always)),
             answer: Ok(6),
         },
         Case {
-            question: Question::Margin(A, OrderPlan::ByDue, HoldPlan::Blocks(2)),
+            question: Question::Margin(SetupPlan(A, OrderPlan::ByDue, HoldPlan::Blocks(2))),
             answer: Ok(6),
         },
         Case {
-            question: Question::Margin(A, OrderPlan::Part(1, 2), HoldPlan::Never),
+            question: Question::Margin(SetupPlan(A, OrderPlan::Part(1, 2), HoldPlan::Never)),
             answer: Ok(9),
         },
         Case {
-            question: Question::Margin(BUSY, OrderPlan::ByDue, HoldPlan::Never),
+            question: Question::Margin(SetupPlan(BUSY, OrderPlan::ByDue, HoldPlan::Never)),
             answer: Ok(0),
         },
         Case {
@@ -163,7 +163,7 @@ pub fn cases() -> [Case<Question>; 17]
             answer: Err(Refusal::Setting),
         },
         Case {
-            question: Question::Margin(A, OrderPlan::ByDue, HoldPlan::Blocks(1)),
+            question: Question::Margin(SetupPlan(A, OrderPlan::ByDue, HoldPlan::Blocks(1))),
             answer: Err(Refusal::Setting),
         },
     ]
