@@ -1,8 +1,8 @@
 -- What a feed's record keeps when a card of it is released.
-use Rattle.std.proofs.Common.{◌≡◌, ◌<◌, ◌≤◌, true, false, List, [], ◌∷◌, ◌++◌, refl, ◌∙◌}
+use Rattle.std.proofs.Common.{◌≡◌, ◌<◌, ◌≤◌, true, false, List, [], ◌∷◌, ◌++◌, refl, arith}
 use Rattle.std.specs.List.{list_all}
-use Rattle.std.proofs.lemmas.Bool.{and_from, lt-ltb, le-leb}
-use Rattle.std.proofs.lemmas.List.Folds.{list_all-append}
+use Rattle.std.proofs.lemmas.Bool.Decides.{nat_tests}
+use Rattle.std.proofs.lemmas.Grind.{common_steps}
 use Rattle.machine.specs.declared.card.Card.{Card}
 use Rattle.keeping.specs.declared.stage.Stage.{Stage}
 use Rattle.keeping.specs.declared.stage.Stage.TheVariants.{Idle, Waiting, Drawing}
@@ -18,5 +18,4 @@ released_busy Drawing = (refl, refl)
 
 -- with a card more, of at most 60,000 ticks, of which some are left, the waiting cards are begun as before
 pub begun_push : (w : List Card) (c : Card) → list_all begun w ≡ true → c.drawn < c.cost → c.cost ≤ 60000 → list_all begun (w ++ c ∷ []) ≡ true
-begun_push w c all less most =
-    list_all-append begun w (c ∷ []) ∙ and_from _ _ all (and_from _ _ (and_from _ _ (lt-ltb _ _ less) (le-leb _ _ most)) refl)
+begun_push w c all less most = grind (arith, nat_tests, common_steps)
