@@ -1,4 +1,4 @@
 pub mod Readies
-pub mod Boards
 pub mod Marks
+pub mod Boards
 pub mod Chosen

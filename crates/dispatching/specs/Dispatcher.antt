@@ -14,6 +14,10 @@ use Rattle.machine.specs.Machine.{Opened, State, picks}
 abbrev pub opened_with : {O H : Type 0} {g : OrderGhosts O} {h : HoldGhosts H} → (O → Order) → (H → Hold) → Dispatcher O H g h → Opened
 opened_with order hold d = opened d.board.roster (order d.order) (hold d.hold)
 
+-- The same, where the order and the hold rule have the meanings of their traits.
+abbrev pub setting : {O H : Type 0} {g : OrderGhosts O} {h : HoldGhosts H} → Dispatcher O H g h → Opened
+setting {g = g} {h = h} d = opened_with g.meaning h.meaning d
+
 -- Its state.
 abbrev pub state : {O H : Type 0} {g : OrderGhosts O} {h : HoldGhosts H} → Dispatcher O H g h → State
 state d = state_of d.board

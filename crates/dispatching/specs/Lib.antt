@@ -1,6 +1,7 @@
 pub mod Ready
 pub mod Pick
 pub mod Board
+pub mod Entry
 pub mod Dispatcher
 pub mod Closed
 pub mod Readies

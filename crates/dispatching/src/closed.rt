@@ -1,5 +1,4 @@
-ghost use Rattle.std.specs.Prelude.{◌≡◌, length};
-
+use few::Few;
 use roster::Roster;
 
 mod reading;
@@ -9,7 +8,6 @@ mod reading;
 pub struct Closed {
     /// The roster that the dispatcher was opened on.
     pub roster: Roster,
-    // those of the feeds stand in front
-    worst: [u32; 32],
-    ghost sized: { length worst ≡ 32 },
+    // that of number 1 stands first
+    worst: Few<u32, 32>,
 }

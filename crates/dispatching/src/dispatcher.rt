@@ -1,4 +1,4 @@
-ghost use Rattle.std.specs.Prelude.{◌≡◌, ◌≤◌, length};
+ghost use Rattle.std.specs.Prelude.{◌≤◌};
 
 use crate::board::Board;
 use policy::{HoldRule, QueueOrder};
@@ -16,5 +16,4 @@ pub struct Dispatcher<O: QueueOrder, H: HoldRule> {
     order: O,
     hold: H,
     ghost timed: { board.clock ≤ 1000000000 },
-    ghost sized: { length board.records ≡ 32 },
 }

@@ -4,6 +4,7 @@
 mod board;
 mod closed;
 mod dispatcher;
+mod entry;
 mod marking;
 mod ready;
 #[cfg(test)]

@@ -7,8 +7,7 @@ use machine::Pick;
 // Marks the feeds of picks.
 pub(crate) fn marks_of(picks: &[Pick]) -> [bool; 32]
     requires { list_all is_numbered picks.now ≡ true }
-    ensures sized { length result ≡ 32 }
-    ensures marked { (k : ℕ) → k < 32 → slice_index_or result k false ≡ has_feed k picks.now }
+    ensures { (k : ℕ) → k < 32 → slice_index_or result k false ≡ has_feed k picks.now }
 {
     let mut marks = [false; 32];
     for pick in picks {

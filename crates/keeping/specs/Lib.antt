@@ -1,3 +1,3 @@
 pub mod Stage
-pub mod Queue
+pub mod Begun
 pub mod Record

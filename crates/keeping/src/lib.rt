@@ -1,7 +1,6 @@
 //! What a dispatcher keeps of a feed: its last release, its waiting cards, what it does, and its largest lateness.
 #![tactic(auto)]
 
-mod queue;
 mod record;
 mod stage;
 

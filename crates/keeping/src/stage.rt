@@ -24,6 +24,7 @@ impl Stage {
     pub(crate) fn after(self, turn: Turn) -> Stage
         ensures { result ≡ after self turn }
     {
+        // the pair is matched on, with no table or flag, since the rules give the next stage for each pair of stage and turn
         match (self, turn) {
             (Stage::Drawing, Turn::Released) => Stage::Drawing,
             (_, Turn::Released) => Stage::Waiting,

@@ -1,14 +1,15 @@
-ghost use Rattle.std.specs.Prelude.{◌≡◌, length};
+ghost use Rattle.std.specs.Prelude.{◌≡◌};
+ghost use Rattle.few.specs.Listed.{listed};
 ghost use Rattle.dispatching.specs.Closed.{latenesses};
 
 use crate::closed::Closed;
+use few::Few;
 use roster::Roster;
 
 impl Closed {
-    // A roster, and latenesses in the front places.
-    pub(crate) fn new(roster: Roster, worst: [u32; 32]) -> Closed
-        requires { length worst ≡ 32 }
-        ensures { (result.roster ≡ roster) × (result.worst ≡ worst) }
+    // A roster, and the largest lateness of each of its feeds.
+    pub(crate) fn new(roster: Roster, worst: Few<u32, 32>) -> Closed
+        ensures { (result.roster ≡ roster) × (latenesses result ≡ listed worst) }
     {
         Closed { roster, worst }
     }
@@ -17,6 +18,6 @@ impl Closed {
     pub fn latenesses(&self) -> &[u32]
         ensures { result.now ≡ latenesses self.now }
     {
-        &self.worst[0..self.roster.len()]
+        self.worst.as_slice()
     }
 }

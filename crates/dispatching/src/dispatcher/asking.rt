@@ -2,7 +2,7 @@ ghost use Rattle.std.specs.Prelude.{◌≡◌, ◌-◌, length, IfOk};
 ghost use Rattle.refusal.specs.Told.{unless};
 ghost use Rattle.roster.specs.Roster.{feeds};
 ghost use Rattle.machine.specs.declared.reason.CallRefusal.TheVariants.{NoFeed};
-ghost use Rattle.dispatching.specs.Dispatcher.{opened_with, state};
+ghost use Rattle.dispatching.specs.Dispatcher.{setting, state};
 ghost use Rattle.machine.specs.Law.{Timely, IsMargin};
 ghost use Rattle.machine.specs.Machine.{kept_at, is_feed};
 ghost use Rattle.machine.specs.Told.{told, refusal};
@@ -21,8 +21,8 @@ impl<O: QueueOrder, H: HoldRule> Dispatcher<O, H> {
 
     /// The margin: every run from opening is on time with it, and it is the least number that meets the roster's condition.
     pub fn margin(&self) -> u32
-        ensures margin { IsMargin (opened_with O.QueueOrder.meaning H.HoldRule.meaning self.now) result }
-        ensures timely { Timely (opened_with O.QueueOrder.meaning H.HoldRule.meaning self.now) result }
+        ensures margin { IsMargin (setting self.now) result }
+        ensures timely { Timely (setting self.now) result }
     {
         timely_margin(&self.board.roster, &self.order, &self.hold)
     }
@@ -32,8 +32,7 @@ impl<O: QueueOrder, H: HoldRule> Dispatcher<O, H> {
         ensures answer { refusal result ≡ unless (is_feed (feeds self.now.board.roster) feed) (told NoFeed) }
         ensures value { IfOk result (λ n. n ≡ length (kept_at (state self.now) (feed - 1)).waiting) }
     {
-        let at = self.board.place(feed)?;
-        Ok(self.board.waiting(at))
+        Ok(self.board.entry(feed)?.record.waiting())
     }
 
     /// The largest lateness of a feed's finished cards, or the refusal 21 where there is no such feed.
@@ -41,7 +40,6 @@ impl<O: QueueOrder, H: HoldRule> Dispatcher<O, H> {
         ensures answer { refusal result ≡ unless (is_feed (feeds self.now.board.roster) feed) (told NoFeed) }
         ensures value { IfOk result (λ n. n ≡ (kept_at (state self.now) (feed - 1)).worst) }
     {
-        let at = self.board.place(feed)?;
-        Ok(self.board.worst(at))
+        Ok(self.board.entry(feed)?.record.worst())
     }
 }

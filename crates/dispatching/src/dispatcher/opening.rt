@@ -1,6 +1,6 @@
 ghost use Rattle.std.specs.Prelude.{◌≡◌, ℕ, ◌≤◌, map};
 ghost use Rattle.roster.specs.Roster.{feeds};
-ghost use Rattle.dispatching.specs.Dispatcher.{opened_with, state};
+ghost use Rattle.dispatching.specs.Dispatcher.{setting, state};
 ghost use Rattle.machine.specs.Law.{TimelyFrom, IsMargin, opened};
 ghost use Rattle.machine.specs.Machine.{opening, fresh};
 
@@ -28,7 +28,7 @@ impl<O: QueueOrder, H: HoldRule> Dispatcher<O, H> {
     pub fn open(roster: Roster, order: O, hold: H) -> Dispatcher<O, H>
         ensures taken { (result.board.roster ≡ roster) × (result.order ≡ order) × (result.hold ≡ hold) }
         ensures state { state result ≡ opening (opened roster (O.QueueOrder.meaning order) (H.HoldRule.meaning hold)) }
-        ensures on_time { (x : ℕ) → IsMargin (opened_with O.QueueOrder.meaning H.HoldRule.meaning result) x → TimelyFrom (opened_with O.QueueOrder.meaning H.HoldRule.meaning result) (state result) x }
+        ensures on_time { (x : ℕ) → IsMargin (setting result) x → TimelyFrom (setting result) (state result) x }
     {
         Dispatcher::at_clock(roster, order, hold, 0)
     }

@@ -2,9 +2,9 @@ ghost use Rattle.std.specs.Prelude.{◌≡◌, if◌then◌else◌};
 ghost use Rattle.machine.specs.Machine.{fresh, admit, draw, pass};
 ghost use Rattle.keeping.specs.Record.{kept_of, admissible};
 
-use crate::queue::Queue;
 use crate::record::Record;
 use crate::stage::{Stage, Turn};
+use few::Few;
 use machine::Card;
 
 impl Record {
@@ -13,7 +13,7 @@ impl Record {
         ensures { kept_of result ≡ fresh }
     {
         Record {
-            queue: Queue::new(),
+            queue: Few::new(),
             last: None,
             stage: Stage::Idle,
             worst: 0,
@@ -24,7 +24,7 @@ impl Record {
     pub fn admit(&mut self, release: u32, cost: u32, point: u64)
         ensures { kept_of self.new ≡ (if admissible cost (kept_of self.old) then admit release cost point (kept_of self.old) else kept_of self.old) }
     {
-        if self.queue.len >= 16 || cost < 1 || cost > 60_000 {
+        if self.queue.len() >= 16 || cost < 1 || cost > 60_000 {
             return;
         }
         self.queue.push(Card {
@@ -41,21 +41,21 @@ impl Record {
     pub fn draw(&mut self, spacing: u32, clock: u32)
         ensures { kept_of self.new ≡ draw spacing clock (kept_of self.old) (kept_of self.old).waiting }
     {
-        if self.queue.len == 0 {
+        let Some(card) = self.front() else {
             return;
-        }
-        let card = self.queue.places[0];
+        };
         if card.ends() {
-            self.queue.pop();
+            self.queue.drop_first();
             self.worst = self.worst.max(card.lateness(spacing, clock));
             self.stage = self.stage.after(Turn::Finished {
-                left: self.queue.len,
+                left: self.queue.len(),
             });
         } else {
-            self.queue.replace(Card {
+            let more = Card {
                 drawn: card.drawn + 1,
                 ..card
-            });
+            };
+            self.queue.set(0, more);
             self.stage = self.stage.after(Turn::Chosen);
         }
     }

@@ -11,7 +11,7 @@ impl Record {
     pub fn waiting(&self) -> usize
         ensures { result ≡ length (kept_of self.now).waiting }
     {
-        self.queue.len
+        self.queue.len()
     }
 
     /// The largest lateness.
@@ -26,22 +26,14 @@ impl Record {
         ensures first { result ≡ first_card (kept_of self.now) }
         ensures short { IfSome result (λ c. c.drawn ≤ 60000) }
     {
-        match self.stage {
-            Stage::Idle => None,
-            Stage::Waiting => Some(self.queue.places[0]),
-            Stage::Drawing => Some(self.queue.places[0]),
-        }
+        self.queue.as_slice().first().copied()
     }
 
     /// Whether the first card drew in the last tick.
     pub fn drew(&self) -> bool
         ensures { result ≡ (kept_of self.now).drew }
     {
-        match self.stage {
-            Stage::Drawing => true,
-            Stage::Idle => false,
-            Stage::Waiting => false,
-        }
+        matches!(self.stage, Stage::Drawing)
     }
 
     /// Whether the spacing has passed since the last release.

@@ -8,8 +8,11 @@ use Rattle.dispatching.proofs.board.Board.advance.Given as goal
 abbrev pub invariant-loop-at : goal.invariant-loop-at
 invariant-loop-at l =
     let before = l.initial.self in
+    let fs = feeds before.roster in
     let kept = (state_of l.self).kept in
-    (l.self.roster ≡ before.roster)
-    × (l.self.clock ≡ before.clock)
-    × (length l.self.records ≡ 32)
-    × (take l.at kept ++ moved (marked l.marks) before.clock l.at (drop l.at (feeds before.roster)) (drop l.at kept) ≡ moved (marked l.marks) before.clock 0 (feeds before.roster) (state_of before).kept)
+    record {
+      roster : l.self.roster ≡ before.roster;
+      clock : l.self.clock ≡ before.clock;
+      long : length kept ≡ length fs;
+      kept : take l.at kept ++ moved (marked l.marks) before.clock l.at (drop l.at fs) (drop l.at kept) ≡ moved (marked l.marks) before.clock 0 fs (state_of before).kept;
+    }

@@ -1,30 +1,32 @@
-use Rattle.std.proofs.Common.{◌≡◌, ◌<◌, [], ◌∷◌, ◌++◌, map, length, take, sym, ap, ◌∙◌, ap₂, arith}
-use Rattle.std.proofs.lemmas.List.{length-set, map_more, take_all, take_more_set}
+use Rattle.std.proofs.Common.{◌<◌, [], ◌∷◌, ◌++◌, map, length, take, sym, ap, ◌∙◌, ap₂, arith, length-take}
+use Rattle.std.proofs.lemmas.List.{length-map, map_more, take_all}
+use Rattle.std.proofs.lemmas.Simd.{map-map}
+use Rattle.few.specs.Listed.{listed}
+use Rattle.few.proofs.Lengths.{pushed_whole}
 use Rattle.roster.specs.Roster.{feeds}
-use Rattle.roster.proofs.Standing.{feeds_count}
-use Rattle.dispatching.specs.Board.{state_of}
-use Rattle.machine.specs.Machine.{fresh}
-use Rattle.dispatching.proofs.Boards.{kept_length}
+use Rattle.keeping.specs.declared.record.Record.{Record}
+use Rattle.keeping.specs.Record.{kept_of}
+use Rattle.dispatching.proofs.Boards.{few_feeds}
 use Rattle.dispatching.proofs.board.Board.latenesses.Goals as goal
 
-pub loop-at-preserved : goal.loop-at-preserved
-loop-at-preserved c =
+pub loop-record-preserved : goal.loop-record-preserved
+loop-record-preserved c =
     let b = c.args.self.now in
-    let i = c.loop-at.at in
-    let inv = c.loop-at.invariant in
-    let inside : i < length (state_of b).kept = omega (arith, kept_length b c.requires) in (
-      length-set c.loop-at.all i _ ∙ inv.0,
-      take_more_set c.loop-at.all i _ (omega (arith, inv.0, feeds_count b.roster, b.roster.few))
-          ∙ ap₂ (λ xs x. xs ++ x ∷ []) inv.1 c.worst.ensures
-          ∙ sym (map_more (λ k. k.worst) (state_of b).kept i fresh inside),
-    )
+    let rs = c.kept-record-items.result.now in
+    let i = c.loop-record.record-index in
+    let f = λ (r : Record). (kept_of r).worst in
+    let inv = c.loop-record.invariant in
+    let room : length (listed c.loop-record.latenesses) < 32 =
+    omega (arith, ap length inv, length-map (take i rs) f, length-take i rs, ap length c.kept-record-items.ensures, length-take (length (feeds b.roster)) b.records, few_feeds b.roster) in
+    c.push.ensures
+    ∙ pushed_whole 32 (listed c.loop-record.latenesses) _ room
+    ∙ ap₂ (λ xs x. xs ++ x ∷ []) inv (c.worst.ensures ∙ ap f c.record-item.is)
+    ∙ sym (map_more f rs i c.record-item.result c.loop-record-test.true)
 
 pub returns : goal.returns
 returns c =
-    let b = c.args.self.now in
-    let inv = c.loop-at.invariant in
-    let end : c.loop-at.at ≡ length (feeds b.roster) = omega arith in
-    record {
-      sized = inv.0;
-      worst = ap (λ n. take n c.loop-at.all) (sym end) ∙ inv.1 ∙ ap (map (λ k. k.worst)) (take_all c.loop-at.at (state_of b).kept (omega (arith, kept_length b c.requires)));
-    }
+    let rs = c.kept-record-items.result.now in
+    let f = λ (r : Record). (kept_of r).worst in
+    c.loop-record.invariant
+    ∙ ap (map f) (take_all c.loop-record.record-index rs c.loop-record-test.false ∙ c.kept-record-items.ensures)
+    ∙ sym (map-map (λ k. k.worst) kept_of _)

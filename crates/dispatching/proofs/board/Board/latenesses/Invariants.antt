@@ -1,7 +1,8 @@
-use Rattle.std.proofs.Common.{◌≡◌, map, length, take}
-use Rattle.dispatching.specs.Board.{state_of}
+use Rattle.std.proofs.Common.{◌≡◌, map, take}
+use Rattle.few.specs.Listed.{listed}
+use Rattle.keeping.specs.Record.{kept_of}
 use Rattle.dispatching.proofs.board.Board.latenesses.Given as goal
 
--- those of the feeds so far are written
-abbrev pub invariant-loop-at : goal.invariant-loop-at
-invariant-loop-at l = (length l.all ≡ 32) × (take l.at l.all ≡ map (λ k. k.worst) (take l.at (state_of l.self).kept))
+-- those of the records so far
+abbrev pub invariant-loop-record : goal.invariant-loop-record
+invariant-loop-record l = listed l.latenesses ≡ map (λ r. (kept_of r).worst) (take l.record-index l.record-items)

@@ -1,6 +1,6 @@
 use Rattle.std.proofs.Common.{◌≡◌, map, sym, ap, ◌∙◌, subst}
 use Rattle.roster.specs.Roster.{feeds}
-use Rattle.dispatching.specs.Dispatcher.{opened_with, state}
+use Rattle.dispatching.specs.Dispatcher.{setting, state}
 use Rattle.machine.specs.Law.{TimelyFrom}
 use Rattle.machine.specs.Machine.{fresh, opening}
 use Rattle.machine.proofs.Timely.{roster_timely}
@@ -9,7 +9,7 @@ use Rattle.dispatching.proofs.dispatcher.Dispatcher.open.Goals as goal
 pub returns : goal.returns
 returns g c =
     let d = c.at_clock.result in
-    let o = opened_with g.O.QueueOrder.meaning g.H.HoldRule.meaning d in
+    let o = setting d in
     let made = c.at_clock.ensures in
     let fresh_state : state d ≡ opening o = made.state ∙ ap (λ r. record { clock = 0; kept = map (λ _. fresh) (feeds r) }) (sym made.taken.0) in
     record {
