@@ -1,20 +1,16 @@
 -- What is kept of all feeds, where one record is read or changed.
-use Rattle.std.proofs.Common.{◌≡◌, ℕ, zero, suc, ◌<◌, ◌≤◌, List, [], ◌∷◌, map, length, get_or, take, set, replicate, sym, refl, ap, ◌∙◌, ap₂, arith, length-take}
-use lib.Seq.{take-set-lt}
+use Rattle.std.proofs.Common.{◌≡◌, ℕ, zero, suc, ◌<◌, ◌≤◌, List, [], ◌∷◌, map, length, get_or, take, set, replicate, sym, refl, ap, ◌∙◌, ap₂, arith}
+use Rattle.std.proofs.Math.Seq.{take-set-lt}
 use Rattle.std.proofs.lemmas.List.{map-set}
 use Rattle.std.proofs.lemmas.Grind.{common_steps}
-use Rattle.roster.specs.declared.table.Roster.{Roster}
 use Rattle.roster.specs.declared.feed.Feed.{Feed}
 use Rattle.roster.specs.Roster.{feeds}
+use Rattle.roster.proofs.Standing.{few_feeds}
 use Rattle.dispatching.specs.declared.board.Board.{Board}
 use Rattle.keeping.specs.declared.record.Record.{Record}
 use Rattle.machine.specs.Machine.{Kept, fresh, kept_at}
 use Rattle.keeping.specs.Record.{kept_of}
 use Rattle.dispatching.specs.Board.{state_of}
-
--- a roster has at most 32 feeds
-pub few_feeds : (r : Roster) → length (feeds r) ≤ 32
-few_feeds r = omega (arith, length-take r.count r.places, r.few)
 
 -- records of which nothing was released
 pub kept_fresh : (r : Record) → kept_of r ≡ fresh → (m : ℕ) (fs : List Feed) → length fs ≤ m → map kept_of (take (length fs) (replicate m r)) ≡ map (λ _. fresh) fs

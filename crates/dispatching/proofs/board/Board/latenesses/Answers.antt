@@ -6,7 +6,7 @@ use Rattle.few.proofs.Lengths.{pushed_whole}
 use Rattle.roster.specs.Roster.{feeds}
 use Rattle.keeping.specs.declared.record.Record.{Record}
 use Rattle.keeping.specs.Record.{kept_of}
-use Rattle.dispatching.proofs.Boards.{few_feeds}
+use Rattle.roster.proofs.Standing.{few_feeds}
 use Rattle.dispatching.proofs.board.Board.latenesses.Goals as goal
 
 pub loop-record-preserved : goal.loop-record-preserved

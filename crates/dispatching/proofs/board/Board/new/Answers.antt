@@ -1,6 +1,7 @@
 use Rattle.std.proofs.Common.{ap}
 use Rattle.roster.specs.Roster.{feeds}
-use Rattle.dispatching.proofs.Boards.{few_feeds, kept_fresh}
+use Rattle.roster.proofs.Standing.{few_feeds}
+use Rattle.dispatching.proofs.Boards.{kept_fresh}
 use Rattle.dispatching.proofs.board.Board.new.Goals as goal
 
 pub returns-clause-state : goal.returns-clause-state
