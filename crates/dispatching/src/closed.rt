@@ -1,3 +1,7 @@
+ghost use Rattle.std.specs.Prelude.{◌≡◌, length};
+ghost use Rattle.few.specs.Listed.{listed};
+ghost use Rattle.roster.specs.Roster.{feeds};
+
 use few::Few;
 use roster::Roster;
 
@@ -10,4 +14,5 @@ pub struct Closed {
     pub roster: Roster,
     // that of number 1 stands first
     worst: Few<u32, 32>,
+    ghost whole: { length (listed worst) ≡ length (feeds roster) },
 }

@@ -1,5 +1,6 @@
-ghost use Rattle.std.specs.Prelude.{◌≡◌};
+ghost use Rattle.std.specs.Prelude.{◌≡◌, length};
 ghost use Rattle.few.specs.Listed.{listed};
+ghost use Rattle.roster.specs.Roster.{feeds};
 ghost use Rattle.dispatching.specs.Closed.{latenesses};
 
 use crate::closed::Closed;
@@ -9,6 +10,7 @@ use roster::Roster;
 impl Closed {
     // A roster, and the largest lateness of each of its feeds.
     pub(crate) fn new(roster: Roster, worst: Few<u32, 32>) -> Closed
+        requires { length (listed worst) ≡ length (feeds roster) }
         ensures { (result.roster ≡ roster) × (latenesses result ≡ listed worst) }
     {
         Closed { roster, worst }
