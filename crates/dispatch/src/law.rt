@@ -1,6 +1,8 @@
 ghost use Rattle.dispatch.specs.Example.{Listing, Crowding};
 ghost use Rattle.dispatch.specs.Law.{RunsOnTime};
 
+// The theorems of this crate's machine, not twins of those in crates/machine, which speak of another machine.
+
 /// Every run of the machine is on time, and no step of it has more picks than lanes.
 /// It does nothing: its contract is the statement.
 pub fn runs_on_time()

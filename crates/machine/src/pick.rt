@@ -9,6 +9,7 @@ use std::fmt;
 pub struct Pick {
     pub feed: u32,
     pub release: u32,
+    // a flag with a number beside it, since the rules give a pick both: done or not, and a lateness that is 0 until then
     pub done: bool,
     pub lateness: u32,
 }

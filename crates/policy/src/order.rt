@@ -14,6 +14,7 @@ pub use part::Part;
 /// A queue order: it gives each card a point, and the smaller point comes first.
 ///
 /// What it means is one value for each order, its reply to every question. Asking changes nothing.
+// A feed is told by its number and its spacing, as the rules ask it, and not by a struct: those are rosters', which stand above orders.
 pub trait QueueOrder {
     ghost meaning: { Self → Order };
 

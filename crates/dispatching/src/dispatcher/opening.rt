@@ -23,6 +23,8 @@ impl<O: QueueOrder, H: HoldRule> Dispatcher<O, H> {
         }
     }
 
+    // Three values, no struct of them: the rules open a dispatcher on a roster, an order and a hold rule, each by value.
+
     /// Opens a dispatcher on a roster, an order and a hold rule, with the clock at 0 and nothing released.
     /// Every run from there on is on time with the margin, and no step of it has more picks than lanes.
     pub fn open(roster: Roster, order: O, hold: H) -> Dispatcher<O, H>

@@ -4,6 +4,7 @@ ghost use Rattle.std.proofs.Common.{rules};
 use crate::hold::{Always, Blocks, HoldRule, Never};
 
 /// One of the built hold rules, for a choice at run time.
+// An enum with a match for each question, no dyn: the choice is among these, and it is handed on by value with no memory of its own.
 #[derive(Clone, Copy)]
 pub enum AnyHold {
     Never,

@@ -6,6 +6,7 @@ ghost use Rattle.policy.specs.Parts.{part_within, part_overtaking};
 use crate::order::{ByDue, FirstCome, Part, QueueOrder};
 
 /// One of the built orders, for a choice at run time.
+// An enum with a match for each question, no dyn: the choice is among these, and it is handed on by value with no memory of its own.
 #[derive(Clone, Copy)]
 pub enum AnyOrder {
     FirstCome,
