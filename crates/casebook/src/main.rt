@@ -15,6 +15,7 @@ use std::io;
 use table::cases;
 
 // Prints the table of cases.
+// The loop of cases' main, over other questions: one function over both, with what asks them for a parameter, would be no plainer.
 fn print_cases(rt: &HostRuntime) -> io::Result<()> {
     for case in cases() {
         let asked = Case {

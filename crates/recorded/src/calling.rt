@@ -1,5 +1,5 @@
 ghost use Rattle.std.specs.Prelude.{◌≡◌};
-ghost use Rattle.dispatching.specs.Dispatcher.{opened_with, state, SameParts};
+ghost use Rattle.dispatching.specs.Dispatcher.{setting, state, SameParts};
 ghost use Rattle.recorded.specs.Event.{event_of, call_of};
 ghost use Rattle.machine.specs.Law.{Answers, next};
 
@@ -16,8 +16,8 @@ const MOST_LANES: usize = 8;
 /// or of eight, which are as good as more.
 pub fn make_call<O: QueueOrder, H: HoldRule>(dispatcher: &mut Dispatcher<O, H>, call: Call) -> Event
     ensures call { call_of result ≡ call }
-    ensures answer { Answers (opened_with O.QueueOrder.meaning H.HoldRule.meaning dispatcher.old) (state dispatcher.old) (event_of result) }
-    ensures state { state dispatcher.new ≡ next (opened_with O.QueueOrder.meaning H.HoldRule.meaning dispatcher.old) (state dispatcher.old) (event_of result) }
+    ensures answer { Answers (setting dispatcher.old) (state dispatcher.old) (event_of result) }
+    ensures state { state dispatcher.new ≡ next (setting dispatcher.old) (state dispatcher.old) (event_of result) }
     ensures same_parts { SameParts dispatcher.old dispatcher.new }
 {
     match call {

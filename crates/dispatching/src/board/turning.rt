@@ -41,6 +41,7 @@ impl Board {
         ensures roster { self.new.roster ≡ self.old.roster }
     {
         self.clock += 1;
+        // by place, since each record is changed where it stands, and its feed's spacing is the roster's
         for (at, draws) in marks[0..self.roster.len()].iter().enumerate() {
             self.turn(at, *draws);
         }

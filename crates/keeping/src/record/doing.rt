@@ -37,6 +37,8 @@ impl Record {
         self.stage = self.stage.after(Turn::Released);
     }
 
+    // The spacing and the clock are two numbers of two owners, the roster and the dispatcher, and come from each when they are wanted.
+
     /// The first card draws a tick; nothing changes where none waits. Drawn for its full cost it is finished at that clock.
     pub fn draw(&mut self, spacing: u32, clock: u32)
         ensures { kept_of self.new ≡ draw spacing clock (kept_of self.old) (kept_of self.old).waiting }
