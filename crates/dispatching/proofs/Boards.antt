@@ -1,14 +1,15 @@
 -- What is kept of all feeds, where one record is read or changed.
-use Rattle.std.proofs.Common.{◌≡◌, ℕ, zero, suc, ◌<◌, ◌≤◌, List, [], ◌∷◌, map, length, get_or, take, set, replicate, sym, refl, ap, ◌∙◌, ap₂, arith}
+use Rattle.std.proofs.Common.{◌≡◌, ℕ, zero, suc, ◌+◌, ◌<◌, ◌≤◌, Bool, List, [], ◌∷◌, ◌++◌, map, length, get_or, take, drop, set, replicate, sym, refl, ap, ◌∙◌, ap₂, add-one, arith}
 use Rattle.std.proofs.Math.Seq.{take-set-lt}
 use Rattle.std.proofs.lemmas.List.{map-set}
 use Rattle.std.proofs.lemmas.Grind.{common_steps}
 use Rattle.roster.specs.declared.feed.Feed.{Feed}
+use Rattle.roster.specs.Margin.{at}
 use Rattle.roster.specs.Roster.{feeds}
 use Rattle.roster.proofs.Standing.{few_feeds}
 use Rattle.dispatching.specs.declared.board.Board.{Board}
 use Rattle.keeping.specs.declared.record.Record.{Record}
-use Rattle.machine.specs.Machine.{Kept, fresh, kept_at}
+use Rattle.machine.specs.Machine.{Kept, fresh, kept_at, stirred, moved}
 use Rattle.keeping.specs.Record.{kept_of}
 use Rattle.dispatching.specs.Board.{state_of}
 
@@ -30,3 +31,29 @@ module _ (b : Board) (sized : length b.records ≡ 32) where
       ap (map kept_of) (take-set-lt n b.records k new inside)
       ∙ map-set kept_of (take n b.records) k new
       ∙ ap (set (map kept_of (take n b.records)) k) (is ∙ ap f (sym (board_read k r inside)))
+
+-- the feeds move one after the other
+module _ (picks : ℕ → Bool) (clock : ℕ) where
+  moved_at : (j i : ℕ) (fs : List Feed) (rs : List Kept) → i < length fs → i < length rs →
+      let next = set rs i (stirred (at fs i).spacing clock (picks j) (get_or rs i fresh)) in
+      take (suc i) next ++ moved picks clock (suc j) (drop (suc i) fs) (drop (suc i) next) ≡ take i rs ++ moved picks clock j (drop i fs) (drop i rs)
+  moved_at j i [] rs h g = absurd (omega arith)
+  moved_at j i (f ∷ fs) [] h g = absurd (omega arith)
+  moved_at j zero (f ∷ fs) (r ∷ rs) h g = refl
+  moved_at j (suc i) (f ∷ fs) (r ∷ rs) h g = ap (λ ks. r ∷ ks) (moved_at j i fs rs (omega arith) (omega arith))
+
+  module _ (fs : List Feed) where
+    -- the first i have moved, and the others move from there on
+    abbrev pub moving : ℕ → List Kept → List Kept
+    moving i rs = take i rs ++ moved picks clock i (drop i fs) (drop i rs)
+
+    -- where one feed more moves, the whole is the same
+    pub moving_more : (i : ℕ) (rs next : List Kept) → i < length fs → length rs ≡ length fs → next ≡ set rs i (stirred (at fs i).spacing clock (picks i) (get_or rs i fresh)) → moving (i + 1) next ≡ moving i rs
+    moving_more i rs next inside long is = rw add-one (ap (moving (suc i)) is ∙ moved_at i i fs rs inside (omega arith))
+
+-- a list that has at each place what h gives for the element there
+pub mapped : {X Y : Type 0} (h : X → Y) (xs : List X) (ys : List Y) → length xs ≡ length ys → ((i : ℕ) (d : X) (e : Y) → i < length xs → get_or ys i e ≡ h (get_or xs i d)) → ys ≡ map h xs
+mapped h [] [] long each = refl
+mapped h [] (y ∷ ys) long each = absurd (omega arith)
+mapped h (x ∷ xs) [] long each = absurd (omega arith)
+mapped h (x ∷ xs) (y ∷ ys) long each = ap₂ ◌∷◌ (each 0 x y (omega arith)) (mapped h xs ys (omega arith) (λ i d e inside. each (suc i) d e (omega arith)))

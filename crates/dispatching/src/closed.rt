@@ -1,8 +1,3 @@
-ghost use Rattle.std.specs.Prelude.{◌≡◌, length};
-ghost use Rattle.few.specs.Listed.{listed};
-ghost use Rattle.roster.specs.Roster.{feeds};
-
-use few::Few;
 use roster::Roster;
 
 mod reading;
@@ -12,7 +7,6 @@ mod reading;
 pub struct Closed {
     /// The roster that the dispatcher was opened on.
     pub roster: Roster,
-    // that of number 1 stands first
-    worst: Few<u32, 32>,
-    ghost whole: { length (listed worst) ≡ length (feeds roster) },
+    // those of the feeds stand in front: how many they are is the roster's to say, which a caller may write to
+    worst: [u32; 32],
 }

@@ -1,5 +1,4 @@
 ghost use Rattle.std.specs.Prelude.{◌≡◌, ◌+◌, ◌-◌, ◌<◌, ◌≤◌, map, length, take, IfOk};
-ghost use Rattle.few.specs.Listed.{listed};
 ghost use Rattle.refusal.specs.Told.{unless};
 ghost use Rattle.roster.specs.Roster.{feeds};
 ghost use Rattle.machine.specs.declared.reason.CallRefusal.TheVariants.{NoFeed};
@@ -10,8 +9,6 @@ ghost use Rattle.dispatching.specs.Entry.{IsEntry};
 
 use crate::board::Board;
 use crate::entry::Entry;
-use few::Few;
-use keeping::Record;
 use machine::CallRefusal;
 
 impl Board {
@@ -38,21 +35,10 @@ impl Board {
         }
     }
 
-    // What is kept of each feed.
-    fn kept(&self) -> &[Record]
-        ensures { result.now ≡ take (length (feeds self.now.roster)) self.now.records }
+    // The largest latenesses of all feeds, in the front places of an array.
+    pub(crate) fn latenesses(&self) -> [u32; 32]
+        ensures { take (length (feeds self.now.roster)) result ≡ map (λ k. k.worst) (state_of self.now).kept }
     {
-        &self.records[0..self.roster.len()]
-    }
-
-    // The largest lateness of each feed.
-    pub(crate) fn latenesses(&self) -> Few<u32, 32>
-        ensures { listed result ≡ map (λ k. k.worst) (state_of self.now).kept }
-    {
-        let mut latenesses = Few::new();
-        for record in self.kept() {
-            latenesses.push(record.worst());
-        }
-        latenesses
+        self.records.map(|record| record.worst())
     }
 }

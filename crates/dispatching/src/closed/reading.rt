@@ -1,17 +1,13 @@
-ghost use Rattle.std.specs.Prelude.{◌≡◌, length};
-ghost use Rattle.few.specs.Listed.{listed};
-ghost use Rattle.roster.specs.Roster.{feeds};
+ghost use Rattle.std.specs.Prelude.{◌≡◌};
 ghost use Rattle.dispatching.specs.Closed.{latenesses};
 
 use crate::closed::Closed;
-use few::Few;
 use roster::Roster;
 
 impl Closed {
-    // A roster, and the largest lateness of each of its feeds.
-    pub(crate) fn new(roster: Roster, worst: Few<u32, 32>) -> Closed
-        requires { length (listed worst) ≡ length (feeds roster) }
-        ensures { (result.roster ≡ roster) × (latenesses result ≡ listed worst) }
+    // A roster, and latenesses in the front places.
+    pub(crate) fn new(roster: Roster, worst: [u32; 32]) -> Closed
+        ensures { (result.roster ≡ roster) × (result.worst ≡ worst) }
     {
         Closed { roster, worst }
     }
@@ -20,6 +16,6 @@ impl Closed {
     pub fn latenesses(&self) -> &[u32]
         ensures { result.now ≡ latenesses self.now }
     {
-        self.worst.as_slice()
+        &self.worst[0..self.roster.len()]
     }
 }
