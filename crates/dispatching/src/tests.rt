@@ -7,30 +7,13 @@ use std::process::Abort;
 use std::test::Fail;
 
 // What fills a list, so that an entry that is written shows.
+// This and the roster below stand in recorded's tests too: a crate for what two test modules share would be no plainer.
 const BLANK: Pick = Pick {
     feed: 99,
     release: 99,
     done: true,
     lateness: 99,
 };
-
-// The pick of a card that is finished.
-fn finished(feed: u32, release: u32, lateness: u32) -> Pick {
-    Pick {
-        feed,
-        release,
-        done: true,
-        lateness,
-    }
-}
-
-// The pick of a card that is not finished.
-fn drawn(feed: u32, release: u32) -> Pick {
-    Pick {
-        done: false,
-        ..finished(feed, release, 0)
-    }
-}
 
 // A roster of two lanes and feeds of these costs and spacings.
 fn two_lanes(feeds: [(u32, u32); 3]) -> Result<Roster, Refusal> {
@@ -111,15 +94,15 @@ fn listing(rt: &impl Abort) -> Result<Dispatcher<FirstCome, Never>, Fail> {
     let mut dispatcher = opened([(1, 2), (4, 6), (4, 6)])?;
     dispatcher.release(2, 4)?;
     dispatcher.release(3, 4)?;
-    let both = (2, [drawn(2, 0), drawn(3, 0)]);
+    let both = (2, [Pick::drawn(2, 0), Pick::drawn(3, 0)]);
     assert_eq!(rt; stepped(&mut dispatcher)?, both);
     dispatcher.release(1, 1)?;
     assert_eq!(rt; answers(&dispatcher)?, (1, [1, 1, 1], [0, 0, 0]));
     for picks in [
         both,
         both,
-        (2, [finished(2, 0, 0), finished(3, 0, 0)]),
-        (1, [finished(1, 1, 2), BLANK]),
+        (2, [Pick::finished(2, 0, 0), Pick::finished(3, 0, 0)]),
+        (1, [Pick::finished(1, 1, 2), BLANK]),
     ] {
         assert_eq!(rt; stepped(&mut dispatcher)?, picks);
     }
@@ -183,7 +166,10 @@ fn a_refused_call_changes_nothing_and_the_first_check_that_fails_decides(
     }
     check_refused_step(&rt, &mut dispatcher, 0, 26)?;
     check_refused_step(&rt, &mut dispatcher, 1, 26)?;
-    assert_eq!(rt; stepped(&mut dispatcher)?, (1, [finished(1, 5, 0), BLANK]));
+    assert_eq!(rt;
+        stepped(&mut dispatcher)?,
+        (1, [Pick::finished(1, 5, 0), BLANK])
+    );
     // the refused release of feed 2 a tick ago does not count
     dispatcher.release(2, 4)?;
     assert_eq!(rt; answers(&dispatcher)?, (6, [0, 1, 0], [2, 0, 0]));
@@ -198,7 +184,7 @@ fn at_the_end_of_the_clock_steps_are_refused_and_releases_are_not(
     let mut dispatcher = Dispatcher::at_clock(roster, FirstCome, Never, 999_999_999);
     dispatcher.release(2, 4)?;
     let picks = stepped(&mut dispatcher)?;
-    assert_eq!(rt; picks, (1, [drawn(2, 999_999_999), BLANK]));
+    assert_eq!(rt; picks, (1, [Pick::drawn(2, 999_999_999), BLANK]));
     assert_eq!(rt; dispatcher.clock(), 1_000_000_000);
     for (room, number) in [(8, 25), (2, 25), (1, 26)] {
         check_refused_step(&rt, &mut dispatcher, room, number)?;
@@ -217,7 +203,7 @@ fn a_list_keeps_its_entries_behind_the_picks(rt: HostRuntime) -> Result<(), Fail
     dispatcher.release(2, 4)?;
     let mut list = [BLANK; 8];
     let mut after = [BLANK; 8];
-    after[0] = drawn(2, 0);
+    after[0] = Pick::drawn(2, 0);
     assert_eq!(rt; dispatcher.step(&mut list)?, 1);
     assert_eq!(rt; list, after);
     Ok(())

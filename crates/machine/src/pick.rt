@@ -1,4 +1,4 @@
-ghost use Rattle.std.specs.Prelude.{Some};
+ghost use Rattle.std.specs.Prelude.{◌≡◌, true, false, Some};
 ghost use Rattle.machine.specs.Words.{pick_text};
 
 use std::fmt;
@@ -12,6 +12,32 @@ pub struct Pick {
     // a flag with a number beside it, since the rules give a pick both: done or not, and a lateness that is 0 until then
     pub done: bool,
     pub lateness: u32,
+}
+
+impl Pick {
+    /// The pick of a card that is not done.
+    pub fn drawn(feed: u32, release: u32) -> Pick
+        ensures { result ≡ record { feed = feed; release = release; done = false; lateness = 0 } }
+    {
+        Pick {
+            feed,
+            release,
+            done: false,
+            lateness: 0,
+        }
+    }
+
+    /// The pick of a card that is done, and how late it is.
+    pub fn finished(feed: u32, release: u32, lateness: u32) -> Pick
+        ensures { result ≡ record { feed = feed; release = release; done = true; lateness = lateness } }
+    {
+        Pick {
+            feed,
+            release,
+            done: true,
+            lateness,
+        }
+    }
 }
 
 impl fmt::Display for Pick {

@@ -51,30 +51,13 @@ impl HoldRule for SecondFeedHeld {
 }
 
 // What fills a list, so that an entry that is written shows.
+// This and the roster below stand in dispatching's tests too: a crate for what two test modules share would be no plainer.
 const BLANK: Pick = Pick {
     feed: 99,
     release: 99,
     done: true,
     lateness: 99,
 };
-
-// The pick of a card that is finished.
-fn finished(feed: u32, release: u32, lateness: u32) -> Pick {
-    Pick {
-        feed,
-        release,
-        done: true,
-        lateness,
-    }
-}
-
-// The pick of a card that is not finished.
-fn drawn(feed: u32, release: u32) -> Pick {
-    Pick {
-        done: false,
-        ..finished(feed, release, 0)
-    }
-}
 
 // A roster of two lanes and feeds of these costs and spacings.
 fn two_lanes(feeds: [(u32, u32); 3]) -> Result<Roster, Refusal> {
@@ -109,16 +92,16 @@ fn a_replay_asks_an_order_and_a_hold_rule_of_the_callers_own(rt: HostRuntime) ->
         (Call::Release { feed: 2, cost: 3 }, no_picks),
         (Call::Release { feed: 3, cost: 3 }, no_picks),
         // the points are 0, 12 and 3: feed 2 has not drawn, so it is not held yet
-        (step, Ok((2, [finished(1, 0, 0), drawn(3, 0)]))),
-        (step, Ok((2, [drawn(3, 0), drawn(2, 0)]))),
+        (step, Ok((2, [Pick::finished(1, 0, 0), Pick::drawn(3, 0)]))),
+        (step, Ok((2, [Pick::drawn(3, 0), Pick::drawn(2, 0)]))),
         (Call::Release { feed: 1, cost: 1 }, no_picks),
         (Call::Release { feed: 1, cost: 1 }, Err(23)),
         (Call::Step { room: 1 }, Err(26)),
         // the points are 2, 12 and 3: feed 2 is held, feed 3 drew as well and has to wait
-        (step, Ok((2, [finished(1, 2, 0), drawn(2, 0)]))),
+        (step, Ok((2, [Pick::finished(1, 2, 0), Pick::drawn(2, 0)]))),
         (
             Call::Step { room: 9 },
-            Ok((2, [finished(3, 0, 1), finished(2, 0, 0)])),
+            Ok((2, [Pick::finished(3, 0, 1), Pick::finished(2, 0, 0)])),
         ),
         (step, no_picks),
     ];
