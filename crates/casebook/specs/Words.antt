@@ -1,4 +1,4 @@
--- What a question prints.
+-- What a question and a line of the recorded run print.
 use Rattle.std.specs.Prelude.{ℕ, List, [], ◌++◌, Option, Some, None, codes, decimal}
 use Rattle.std.specs.List.{flat_map}
 use Rattle.machine.specs.Words.{call_text}

@@ -1,14 +1,15 @@
 //! A recorded run, printed: the margin, and then each call with its tick and its answer.
 ghost use Rattle.std.specs.Prelude.{◌≡◌, ◌+◌, Some};
+ghost use Rattle.roster.specs.Roster.{feeds};
 ghost use Rattle.recorded.specs.Event.{event_of};
 ghost use Rattle.casebook.specs.Calls.{latest_of};
 ghost use Rattle.casebook.specs.Words.{line_text};
 
 use crate::table::{FIRST_COME, RELEASE, STEP};
 use machine::{Call, timely_margin};
-use questions::{A, set_up};
+use questions::set_up;
 use recorded::{Event, replay};
-use roster::Feed;
+use roster::{Feed, Roster};
 use std::{fmt, io};
 
 // Feeds 2 and 3 release at 0, and feed 1 at 1 and 5; once more at 5 is too soon.
@@ -58,24 +59,28 @@ fn card_latest(feed: Feed, release: u32, margin: u32) -> u64
 }
 
 // The latest tick of the card that an event accepts, if it accepts one.
-fn latest_tick(event: Event, tick: u32, feeds: &[Feed], margin: u32) -> Option<u64>
-    ensures { result ≡ latest_of feeds.now tick margin (event_of event) }
+fn latest_tick(event: Event, tick: u32, roster: &Roster, margin: u32) -> Option<u64>
+    ensures { result ≡ latest_of (feeds roster.now) tick margin (event_of event) }
 {
     let Event::Released { feed: number, .. } = event else {
         return None;
     };
-    let feed = feeds.get((number as usize).checked_sub(1)?)?;
-    Some(card_latest(*feed, tick, margin))
+    Some(card_latest(roster.feed(number)?, tick, margin))
 }
 
 // Prints the events of a run from opening on.
-fn print_events(rt: &HostRuntime, events: &[Event], feeds: &[Feed], margin: u32) -> io::Result<()> {
+fn print_events(
+    rt: &HostRuntime,
+    events: &[Event],
+    roster: &Roster,
+    margin: u32,
+) -> io::Result<()> {
     let mut tick = 0u32;
     for event in events {
         let line = Line {
             tick,
             event: *event,
-            latest: latest_tick(*event, tick, feeds, margin),
+            latest: latest_tick(*event, tick, roster, margin),
         };
         println!(rt; "{line}")?;
         // counted along, since only some events are steps; the clock ends far below the largest tick
@@ -93,7 +98,7 @@ pub fn print_run(rt: &HostRuntime) -> io::Result<()> {
             let margin = timely_margin(&setup.roster, &setup.order, &setup.hold);
             let events = replay(rt.alloc(), setup.roster, setup.order, setup.hold, &CALLS)?;
             println!(rt; "run on {FIRST_COME}: margin {margin}")?;
-            print_events(rt, &events, A.feeds, margin)
+            print_events(rt, &events, &setup.roster, margin)
         }
         Err(refusal) => {
             let number = refusal.number();

@@ -7,6 +7,6 @@ mod reading;
 pub struct Closed {
     /// The roster that the dispatcher was opened on.
     pub roster: Roster,
-    // those of the feeds stand in front: how many they are is the roster's to say, which a caller may write to
+    // those of the feeds stand in front, and no list of its own has them: how many they are is the roster's to say, which a caller may write to
     worst: [u32; 32],
 }

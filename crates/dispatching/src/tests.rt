@@ -44,10 +44,7 @@ fn answers(
 
 // The number of the refusal, if it is one.
 fn refused<T: Drop>(answer: Result<T, CallRefusal>) -> Option<u8> {
-    match answer {
-        Ok(_) => None,
-        Err(refusal) => Some(refusal.number()),
-    }
+    answer.err().map(|refusal| refusal.number())
 }
 
 // The answer of a step, and its list of two places, blank before.

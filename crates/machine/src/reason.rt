@@ -20,6 +20,8 @@ pub enum CallRefusal {
 }
 
 impl CallRefusal {
+    // Numbers, and a pair of such calls for each layer's refusals, since the rules give each refusal its number and its layer.
+
     /// The number by which this refusal is known, 21 to 26. No other refusal of the dispatcher has it.
     pub fn number(&self) -> u8
         ensures value { result ≡ (told self.now).number }

@@ -11,7 +11,7 @@ use refusal::Refusal;
 use roster::{Feed, Roster};
 
 /// What a dispatcher is opened with: a roster, an order and a hold rule.
-#[derive(Drop)]
+#[derive(Clone, Copy)]
 pub struct Setup {
     pub roster: Roster,
     pub order: AnyOrder,
@@ -19,26 +19,32 @@ pub struct Setup {
 }
 
 // The order of a plan, or why its settings are refused.
-fn choose_order(plan: OrderPlan) -> Result<AnyOrder, Refusal>
-    ensures answer { refusal result ≡ order_refusal plan }
-    ensures made { IfOk result (λ o. chosen_order o ≡ order_of plan) }
-{
-    match plan {
-        OrderPlan::FirstCome => Ok(AnyOrder::FirstCome),
-        OrderPlan::ByDue => Ok(AnyOrder::ByDue),
-        OrderPlan::Part(a, b) => Ok(AnyOrder::Part(Part::new(a, b)?)),
+impl TryFrom<OrderPlan> for AnyOrder {
+    type Error = Refusal;
+
+    ghost try_from_gives = { λ plan r. (refusal r ≡ order_refusal plan) × IfOk r (λ o. chosen_order o ≡ order_of plan) };
+
+    fn try_from(plan: OrderPlan) -> Result<AnyOrder, Refusal> {
+        match plan {
+            OrderPlan::FirstCome => Ok(AnyOrder::FirstCome),
+            OrderPlan::ByDue => Ok(AnyOrder::ByDue),
+            OrderPlan::Part(a, b) => Ok(AnyOrder::Part(Part::new(a, b)?)),
+        }
     }
 }
 
 // The hold rule of a plan, or why its settings are refused.
-fn choose_hold(plan: HoldPlan) -> Result<AnyHold, Refusal>
-    ensures answer { refusal result ≡ hold_refusal plan }
-    ensures made { IfOk result (λ h. chosen_hold h ≡ hold_of plan) }
-{
-    match plan {
-        HoldPlan::Never => Ok(AnyHold::Never),
-        HoldPlan::Always => Ok(AnyHold::Always),
-        HoldPlan::Blocks(q) => Ok(AnyHold::Blocks(Blocks::new(q)?)),
+impl TryFrom<HoldPlan> for AnyHold {
+    type Error = Refusal;
+
+    ghost try_from_gives = { λ plan r. (refusal r ≡ hold_refusal plan) × IfOk r (λ h. chosen_hold h ≡ hold_of plan) };
+
+    fn try_from(plan: HoldPlan) -> Result<AnyHold, Refusal> {
+        match plan {
+            HoldPlan::Never => Ok(AnyHold::Never),
+            HoldPlan::Always => Ok(AnyHold::Always),
+            HoldPlan::Blocks(q) => Ok(AnyHold::Blocks(Blocks::new(q)?)),
+        }
     }
 }
 
@@ -62,8 +68,8 @@ pub fn set_up(plan: SetupPlan) -> Result<Setup, Refusal>
     let SetupPlan(roster, order, hold) = plan;
     Ok(Setup {
         roster: build(roster)?,
-        order: choose_order(order)?,
-        hold: choose_hold(hold)?,
+        order: AnyOrder::try_from(order)?,
+        hold: AnyHold::try_from(hold)?,
     })
 }
 
@@ -81,7 +87,7 @@ pub fn ask(question: Question) -> Result<u64, Refusal>
             let mut roster = build(plan)?;
             Ok(u64::from(roster.add(feed)?))
         }
-        Question::Point(order, spacing, release) => Ok(choose_order(order)?.point(
+        Question::Point(order, spacing, release) => Ok(AnyOrder::try_from(order)?.point(
             1, spacing, release,
         )),
     }

@@ -11,7 +11,7 @@ use policy::{HoldRule, QueueOrder};
 use roster::Roster;
 use std::alloc::{AllocError, Global};
 
-// A roster, an order and a hold rule as three values: what a dispatcher is opened with.
+// Three values, no struct of them: as the rules open a dispatcher.
 
 /// Makes calls one after the other on a freshly opened dispatcher, and gives the record of the calls with their answers and picks.
 /// The record is on time with the margin, and no step of it has more picks than lanes. It refuses only for want of memory.

@@ -5,7 +5,7 @@ ghost use Rattle.roster.specs.Multiple.{gcd, lcm};
 fn greatest_divisor(a: u64, b: u64) -> u64
     ensures { result ≡ gcd a b }
 {
-    // Euclid's steps, which count no index
+    // Euclid's steps, which count no index; the library has no greatest common divisor
     let mut x = a;
     let mut y = b;
     while y > 0 {

@@ -21,6 +21,7 @@ impl Board {
     }
 
     // One card more of the feed at a place, released now.
+    // A place asks to be one of this roster's, here and below, since no type ties it to one roster.
     pub(crate) fn admit(&mut self, at: usize, cost: u32, point: u64)
         requires place { at < length (feeds self.old.roster) }
         requires room { length (kept_at (state_of self.old) at).waiting < 16 }

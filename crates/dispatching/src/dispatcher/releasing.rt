@@ -21,7 +21,7 @@ impl<O: QueueOrder, H: HoldRule> Dispatcher<O, H> {
         ensures made { IfOk result (λ f. f ≡ feed_at (feeds self.now.board.roster) (number - 1)) }
     {
         let Entry { feed, record } = self.board.entry(number)?;
-        if cost < 1 || cost > feed.cost {
+        if !(1..=feed.cost).contains(&cost) {
             return Err(CallRefusal::Cost);
         }
         if !record.is_apart(feed.spacing, self.board.clock) {

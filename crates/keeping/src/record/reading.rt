@@ -40,9 +40,8 @@ impl Record {
     pub fn is_apart(&self, spacing: u32, clock: u32) -> bool
         ensures { result ≡ apart (kept_of self.now).last spacing clock }
     {
-        match self.last {
-            None => true,
-            Some(release) => u64::from(release) + u64::from(spacing) <= u64::from(clock),
-        }
+        self.last.is_none_or(|release| {
+            u64::from(release) + u64::from(spacing) <= u64::from(clock)
+        })
     }
 }

@@ -14,7 +14,7 @@ pub struct Clearing {
 
 impl Clearing {
     /// The least x with hyperperiod × (in progress + overtaking − own) ≤ x × rate, where what is below 0 counts as 0.
-    pub fn least_enough(&self, overtaking: u64, own: u64) -> u64
+    pub(super) fn least_enough(&self, overtaking: u64, own: u64) -> u64
         requires { overtaking ≤ 1920000 }
         ensures value { result ≡ div_ceil (self.now.hyperperiod * (self.now.in_progress + overtaking - own)) self.now.rate }
         ensures bound { result ≤ self.now.in_progress + overtaking }
