@@ -15,7 +15,7 @@ use std::io;
 use table::cases;
 
 // Prints the table of cases.
-// The loop of cases' main, over other questions: one function over both would ask something of the closure that asks them, as no public call does.
+// The loop of cases' main, over other questions: one function over both would ask something of the closure that asks them, as no public call does, and a trait for two programs would be no plainer.
 fn print_cases(rt: &HostRuntime) -> io::Result<()> {
     for case in cases() {
         let asked = Case {

@@ -7,6 +7,7 @@ use questions::{SetupPlan, set_up};
 use refusal::Refusal;
 
 /// What is asked.
+// No twin of the question in `questions`, which it wraps; so are `ask` and the table of this crate.
 #[derive(Clone, Copy)]
 pub enum Question {
     /// A question for which no dispatcher is opened.

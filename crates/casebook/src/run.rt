@@ -13,7 +13,7 @@ use roster::{Feed, Roster};
 use std::{fmt, io};
 
 // Feeds 2 and 3 release at 0, and feed 1 at 1 and 5; once more at 5 is too soon.
-const CALLS: [Call; 10] = [
+const CALLS: &[Call] = &[
     Call::Release { feed: 2, cost: 4 },
     Call::Release { feed: 3, cost: 4 },
     STEP,
@@ -96,7 +96,7 @@ pub fn print_run(rt: &HostRuntime) -> io::Result<()> {
     match set_up(FIRST_COME) {
         Ok(setup) => {
             let margin = timely_margin(&setup.roster, &setup.order, &setup.hold);
-            let events = replay(rt.alloc(), setup.roster, setup.order, setup.hold, &CALLS)?;
+            let events = replay(rt.alloc(), setup.roster, setup.order, setup.hold, CALLS)?;
             println!(rt; "run on {FIRST_COME}: margin {margin}")?;
             print_events(rt, &events, &setup.roster, margin)
         }

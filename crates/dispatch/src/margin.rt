@@ -6,6 +6,8 @@ ghost use Rattle.dispatch.specs.Law.{Timely};
 use policy::{HoldRule, QueueOrder};
 use roster::Roster;
 
+// One call of machine's function of that name: each contract speaks of its own machine.
+
 /// The margin of a roster under an order and a hold rule: every run of the machine on them is on time with it,
 /// and it is the least number that meets the roster's condition.
 pub fn timely_margin<O: QueueOrder, H: HoldRule>(roster: &Roster, order: &O, hold: &H) -> u32

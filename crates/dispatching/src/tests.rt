@@ -43,6 +43,7 @@ fn answers(
 }
 
 // The number of the refusal, if it is one.
+// The tests of policy and roster have such a function too, which would be no plainer in a crate of its own.
 fn refused<T: Drop>(answer: Result<T, CallRefusal>) -> Option<u8> {
     answer.err().map(|refusal| refusal.number())
 }
