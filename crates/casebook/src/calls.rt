@@ -14,11 +14,7 @@ use recorded::{Event, make_call};
 fn is_release(event: Event, number: u32) -> bool
     ensures { result ≡ releases number (event_of event) }
 {
-    match event {
-        Event::Released { feed, .. } => feed == number,
-        Event::Stepped { .. } => false,
-        Event::Refused { .. } => false,
-    }
+    matches!(event, Event::Released { feed, .. } if feed == number)
 }
 
 /// How many releases of a feed are accepted, when calls are made one after the other on a dispatcher that is opened for them.

@@ -24,6 +24,7 @@ impl Record {
     pub fn admit(&mut self, release: u32, cost: u32, point: u64)
         ensures { kept_of self.new ≡ (if admissible cost (kept_of self.old) then admit release cost point (kept_of self.old) else kept_of self.old) }
     {
+        // tried with `contains` of a range, and the proof of the record's facts did not close
         if self.queue.len() >= 16 || cost < 1 || cost > 60_000 {
             return;
         }
