@@ -63,8 +63,7 @@ impl<T: Copy + Default, const N: usize> Few<T, N> {
         ensures { listed self.new ≡ drop 1 (listed self.old) }
     {
         if self.len > 0 {
-            let all = &mut self.places[..];
-            all.rotate_left(1);
+            self.places[..self.len].rotate_left(1);
             self.len -= 1;
         }
     }
