@@ -1,8 +1,10 @@
 -- What is kept of all feeds, where one record is read or changed.
-use Rattle.std.proofs.Common.{◌≡◌, ℕ, zero, suc, ◌+◌, ◌<◌, ◌≤◌, Bool, List, [], ◌∷◌, ◌++◌, map, length, get_or, take, drop, set, replicate, sym, refl, ap, ◌∙◌, ap₂, add-one, arith}
+use Rattle.std.proofs.Common.{◌≡◌, ℕ, zero, suc, ◌+◌, ◌<◌, ◌≤◌, Bool, List, [], ◌∷◌, ◌++◌, map, length, get_or, take, drop, set, replicate, sym, refl, ap, ◌∙◌, subst, ap₂, add-one, zero-add, arith}
 use Rattle.std.proofs.Math.Seq.{take-set-lt}
 use Rattle.std.proofs.lemmas.List.{map-set}
 use Rattle.std.proofs.lemmas.Grind.{common_steps}
+use denote.Param.Members.{Mut, Called}
+use Rattle.std.specs.Array.{IsFromFnResult, IsFromFnResultFrom}
 use Rattle.roster.specs.declared.feed.Feed.{Feed}
 use Rattle.roster.specs.Margin.{at}
 use Rattle.roster.specs.Roster.{feeds}
@@ -57,3 +59,25 @@ mapped h [] [] long each = refl
 mapped h [] (y ∷ ys) long each = absurd (omega arith)
 mapped h (x ∷ xs) [] long each = absurd (omega arith)
 mapped h (x ∷ xs) (y ∷ ys) long each = ap₂ ◌∷◌ (each 0 x y (omega arith)) (mapped h xs ys (omega arith) (λ i d e inside. each (suc i) d e (omega arith)))
+
+-- a call at a place reads a list there, keeps it, and gives what h gives for the element
+abbrev pub ReadsBy : {F X Y : Type 0} → Mut F (ℕ × Unit {0}) Y → (F → List X) → (X → Y) → Type 0
+ReadsBy {F} {X} {Y} g list h = (p q : F) (i : ℕ) (y : Y) → Called g p (i, tt) y q → (list q ≡ list p) × ((d : X) → i < length (list p) → y ≡ h (get_or (list p) i d))
+
+-- calls from the place i on
+made_from : {F X Y : Type 0} (g : Mut F (ℕ × Unit {0}) Y) (list : F → List X) (h : X → Y) → ReadsBy g list h → (xs : List X) (ys : List Y) (f : F) (i n : ℕ) → list f ≡ xs → IsFromFnResultFrom g f ys i n →
+    (k : ℕ) (d : X) (e : Y) → k < n → i + k < length xs → get_or ys (i + k) e ≡ h (get_or xs (i + k) d)
+made_from g list h reads xs ys f i zero is each k d e inside within = absurd (omega arith)
+made_from g list h reads xs ys f i (suc n) is each zero d e inside within =
+    let call = reads f each.0 i each.1 each.3 in
+    let here : i ≡ i + 0 = omega arith in
+    subst (λ j. get_or ys j e ≡ h (get_or xs j d)) here (each.2.1 e ∙ call.1 d (omega (arith, ap length is)) ∙ ap (λ l. h (get_or l i d)) is)
+made_from g list h reads xs ys f i (suc n) is each (suc k) d e inside within =
+    let call = reads f each.0 i each.1 each.3 in
+    let there : (i + 1) + k ≡ i + suc k = omega arith in
+    subst (λ j. get_or ys j e ≡ h (get_or xs j d)) there (made_from g list h reads xs ys each.0 (i + 1) n (call.0 ∙ is) each.4 k d e (omega arith) (omega arith))
+
+-- what such calls make of the whole list
+pub made : {F X Y : Type 0} {g : Mut F (ℕ × Unit {0}) Y} {f : F} {xs : List X} {ys : List Y} {n : ℕ} → IsFromFnResult g f ys n → (list : F → List X) (h : X → Y) → list f ≡ xs → length xs ≡ n → ReadsBy g list h → ys ≡ map h xs
+made {g = g} {f = f} {xs = xs} {ys = ys} {n = n} rows list h is long reads =
+    mapped h xs ys (long ∙ sym rows.long) (λ i d e inside. subst (λ j. get_or ys j e ≡ h (get_or xs j d)) (zero-add i) (made_from g list h reads xs ys f 0 n is rows.each i d e (omega (arith, long)) (omega arith)))

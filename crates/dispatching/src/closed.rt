@@ -1,3 +1,5 @@
+ghost use Rattle.std.specs.Prelude.{◌≡◌, length};
+
 use roster::Roster;
 
 mod reading;
@@ -9,4 +11,6 @@ pub struct Closed {
     pub roster: Roster,
     // those of the feeds stand in front, and no list of its own has them: how many they are is the roster's to say, which a caller may write to
     worst: [u32; 32],
+    // the array's type says it here, and tells no other crate
+    ghost sized: { length worst ≡ 32 },
 }

@@ -1,4 +1,4 @@
-ghost use Rattle.std.specs.Prelude.{◌≤◌};
+ghost use Rattle.std.specs.Prelude.{◌≡◌, ◌≤◌, length};
 
 use crate::board::Board;
 use policy::{HoldRule, QueueOrder};
@@ -16,4 +16,6 @@ pub struct Dispatcher<O: QueueOrder, H: HoldRule> {
     order: O,
     hold: H,
     ghost timed: { board.clock ≤ 1000000000 },
+    // the array's type does not tell other crates
+    ghost sized: { length board.records ≡ 32 },
 }

@@ -10,6 +10,7 @@ ghost use Rattle.dispatching.specs.Entry.{IsEntry};
 use crate::board::Board;
 use crate::entry::Entry;
 use machine::CallRefusal;
+use std::array;
 
 impl Board {
     // The feed of that number, and what is kept of it.
@@ -39,6 +40,12 @@ impl Board {
     pub(crate) fn latenesses(&self) -> [u32; 32]
         ensures { take (length (feeds self.now.roster)) result ≡ map (λ k. k.worst) (state_of self.now).kept }
     {
-        self.records.map(|record| record.worst())
+        // each record is read where it stands: `map` would take a copy of all 32
+        let records = &self.records;
+        array::from_fn(
+            |at|
+                requires { at < 32 }
+            { records[at].worst() },
+        )
     }
 }

@@ -29,6 +29,7 @@ impl Board {
         ensures kept { (state_of self.new).kept ≡ slice_set (state_of self.old).kept at (admit self.old.clock cost point (kept_at (state_of self.old) at)) }
         ensures clock { self.new.clock ≡ self.old.clock }
         ensures roster { self.new.roster ≡ self.old.roster }
+        ensures sized { length self.new.records ≡ 32 }
     {
         let clock = self.clock;
         self.records[at].admit(clock, cost, point);
@@ -40,6 +41,7 @@ impl Board {
         ensures kept { (state_of self.new).kept ≡ moved (marked marks.now) (self.old.clock + 1) 0 (feeds self.old.roster) (state_of self.old).kept }
         ensures clock { self.new.clock ≡ self.old.clock + 1 }
         ensures roster { self.new.roster ≡ self.old.roster }
+        ensures sized { length self.new.records ≡ 32 }
     {
         self.clock += 1;
         // by place, since each record is changed where it stands, and its feed's spacing is the roster's
@@ -54,6 +56,7 @@ impl Board {
         ensures kept { (state_of self.new).kept ≡ slice_set (state_of self.old).kept at (stirred (spacing_at self.old at) self.old.clock draws (kept_at (state_of self.old) at)) }
         ensures clock { self.new.clock ≡ self.old.clock }
         ensures roster { self.new.roster ≡ self.old.roster }
+        ensures sized { length self.new.records ≡ 32 }
     {
         let spacing = self.entry_at(at).feed.spacing;
         let clock = self.clock;

@@ -13,6 +13,7 @@ invariant-loop-at l =
     record {
       roster : l.self.roster ≡ before.roster;
       clock : l.self.clock ≡ before.clock;
+      sized : length l.self.records ≡ 32;
       long : length kept ≡ length fs;
       kept : take l.at kept ++ moved (marked l.marks) before.clock l.at (drop l.at fs) (drop l.at kept) ≡ moved (marked l.marks) before.clock 0 fs (state_of before).kept;
     }

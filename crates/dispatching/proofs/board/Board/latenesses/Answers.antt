@@ -1,10 +1,10 @@
-use Rattle.std.proofs.Common.{◌≡◌, length, take, sym, ap, ◌∙◌, arith, rules}
-use Rattle.std.proofs.lemmas.List.{take-map}
+use Rattle.std.proofs.Common.{◌≡◌, get_or, length, take, refl, sym, ap, ◌∙◌, rules}
+use Rattle.std.proofs.lemmas.List.{get_or_read, take-map}
 use Rattle.std.proofs.lemmas.Simd.{map-map}
 use Rattle.roster.specs.Roster.{feeds}
 use Rattle.keeping.specs.declared.record.Record.{Record}
 use Rattle.keeping.specs.Record.{kept_of}
-use Rattle.dispatching.proofs.Boards.{mapped}
+use Rattle.dispatching.proofs.Boards.{made}
 use Rattle.dispatching.proofs.board.Board.latenesses.Goals as goal
 
 pub returns : goal.returns
@@ -12,7 +12,7 @@ returns c =
     let b = c.args.self.now in
     let n = length (feeds b.roster) in
     let f = λ (r : Record). (kept_of r).worst in
-    let rows = c.map.ensures.items in
     let long : length b.records ≡ 32 = search rules in
-    let all = mapped f b.records c.map.result (long ∙ sym rows.long) (λ i d e inside. let made = rows.at i d e (omega (arith, inside, long)) in search rules) in
+    let all = made c.from_fn.ensures.items (λ s. s.0.now) f refl long
+    (λ p q i y called. let met = called.met in (search rules, λ d inside. search (rules, λ (r : Record) (is : y ≡ f r) (read : r ≡ get_or p.0.now i r). is ∙ ap f (get_or_read p.0.now i r inside read d)))) in
     ap (take n) all ∙ take-map f n b.records ∙ sym (map-map (λ k. k.worst) kept_of (take n b.records))
