@@ -9,17 +9,17 @@ use refusal::Refusal;
 /// What is asked.
 // No twin of the question in `questions`, which it wraps; so are `ask` and the table of this crate.
 #[derive(Clone, Copy)]
-pub enum Question {
+pub enum Question<'a> {
     /// A question for which no dispatcher is opened.
-    Still(questions::Question),
+    Still(questions::Question<'a>),
     /// How many releases of feed 1 are accepted, when these calls are made one after the other on a dispatcher
     /// that is opened on a roster under an order and a hold rule.
-    Accepted(SetupPlan, &'static [Call]),
+    Accepted(SetupPlan<'a>, &'a [Call]),
 }
 
 /// Makes the calls that a question stands for, and gives the right answer.
-pub fn ask(question: Question) -> Result<u64, Refusal>
-    ensures { Right question result }
+pub fn ask(question: Question<'_>) -> Result<u64, Refusal>
+    ensures { Right question.entry result }
 {
     match question {
         Question::Still(question) => questions::ask(question),

@@ -5,7 +5,7 @@ ghost use Rattle.casebook.specs.Words.{question_text};
 use crate::question::Question;
 use std::fmt;
 
-impl fmt::Display for Question {
+impl fmt::Display for Question<'_> {
     ghost output = { λ question. Some (question_text question) };
 
     fn fmt<W: fmt::Write>(&self, f: &mut fmt::Formatter<W>) -> fmt::Result {

@@ -49,9 +49,9 @@ impl TryFrom<HoldPlan> for AnyHold {
 }
 
 // The roster of a plan, or the first refusal on the way.
-fn build(plan: Plan) -> Result<Roster, Refusal>
-    ensures answer { refusal result ≡ plan_refusal plan }
-    ensures made { IfOk result (λ t. (t.lanes ≡ plan.lanes) × (feeds t ≡ plan.feeds.now)) }
+fn build(plan: Plan<'_>) -> Result<Roster, Refusal>
+    ensures answer { refusal result ≡ plan_refusal plan.entry }
+    ensures made { IfOk result (λ t. (t.lanes ≡ plan.entry.lanes) × (feeds t ≡ plan.entry.feeds.now)) }
 {
     let mut roster = Roster::new(plan.lanes)?;
     for feed in plan.feeds {
@@ -61,9 +61,9 @@ fn build(plan: Plan) -> Result<Roster, Refusal>
 }
 
 /// The roster, the order and the hold rule of a plan, or the first refusal on the way.
-pub fn set_up(plan: SetupPlan) -> Result<Setup, Refusal>
-    ensures answer { refusal result ≡ setup_refusal plan }
-    ensures made { IfOk result (λ s. SetsUp plan s) }
+pub fn set_up(plan: SetupPlan<'_>) -> Result<Setup, Refusal>
+    ensures answer { refusal result ≡ setup_refusal plan.entry }
+    ensures made { IfOk result (λ s. SetsUp plan.entry s) }
 {
     let SetupPlan(roster, order, hold) = plan;
     Ok(Setup {
@@ -74,8 +74,8 @@ pub fn set_up(plan: SetupPlan) -> Result<Setup, Refusal>
 }
 
 /// Makes the calls that a question stands for, and gives the right answer.
-pub fn ask(question: Question) -> Result<u64, Refusal>
-    ensures { Right question result }
+pub fn ask(question: Question<'_>) -> Result<u64, Refusal>
+    ensures { Right question.entry result }
 {
     match question {
         Question::Hyperperiod(plan) => Ok(build(plan)?.hyperperiod()),

@@ -5,6 +5,8 @@ mod asking;
 mod plan;
 mod show;
 mod table;
+#[cfg(test)]
+mod tests;
 
 pub use asking::{Setup, ask, set_up};
 pub use plan::{Case, HoldPlan, OrderPlan, Plan, Question, SetupPlan};

@@ -4,9 +4,9 @@ use roster::Feed;
 
 /// A roster to be built: a lane count, and the feeds to add one after the other.
 #[derive(Clone, Copy)]
-pub struct Plan {
+pub struct Plan<'a> {
     pub lanes: u32,
-    pub feeds: &'static [Feed],
+    pub feeds: &'a [Feed],
 }
 
 /// A queue order by its settings.
@@ -27,17 +27,17 @@ pub enum HoldPlan {
 
 /// What a dispatcher is to be opened with: a roster, an order and a hold rule.
 #[derive(Clone, Copy)]
-pub struct SetupPlan(pub Plan, pub OrderPlan, pub HoldPlan);
+pub struct SetupPlan<'a>(pub Plan<'a>, pub OrderPlan, pub HoldPlan);
 
 /// What is asked.
 #[derive(Clone, Copy)]
-pub enum Question {
+pub enum Question<'a> {
     /// The hyperperiod of a roster.
-    Hyperperiod(Plan),
+    Hyperperiod(Plan<'a>),
     /// The margin of a roster under an order and a hold rule.
-    Margin(SetupPlan),
+    Margin(SetupPlan<'a>),
     /// The number that one feed more has once it is added.
-    Add(Plan, Feed),
+    Add(Plan<'a>, Feed),
     /// The point of a card of feed 1, by its feed's spacing and its release.
     Point(OrderPlan, u32, u32),
 }

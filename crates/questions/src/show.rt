@@ -6,7 +6,7 @@ ghost use Rattle.questions.specs.Words.{plan_text, order_text, hold_text, setup_
 use crate::plan::{Case, HoldPlan, OrderPlan, Plan, Question, SetupPlan};
 use std::fmt;
 
-impl fmt::Display for Plan {
+impl fmt::Display for Plan<'_> {
     ghost output = { λ plan. Some (plan_text plan) };
 
     fn fmt<W: fmt::Write>(&self, f: &mut fmt::Formatter<W>) -> fmt::Result {
@@ -45,7 +45,7 @@ impl fmt::Display for HoldPlan {
     }
 }
 
-impl fmt::Display for SetupPlan {
+impl fmt::Display for SetupPlan<'_> {
     ghost output = { λ plan. Some (setup_text plan) };
 
     fn fmt<W: fmt::Write>(&self, f: &mut fmt::Formatter<W>) -> fmt::Result {
@@ -54,7 +54,7 @@ impl fmt::Display for SetupPlan {
     }
 }
 
-impl fmt::Display for Question {
+impl fmt::Display for Question<'_> {
     ghost output = { λ question. Some (question_text question) };
 
     fn fmt<W: fmt::Write>(&self, f: &mut fmt::Formatter<W>) -> fmt::Result {

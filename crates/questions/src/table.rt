@@ -6,7 +6,7 @@ use refusal::Refusal;
 use roster::Feed;
 
 /// Two lanes with feeds (1, 2), (4, 6) and (4, 6).
-pub const A: Plan = Plan {
+pub const A: Plan<'static> = Plan {
     lanes: 2,
     feeds: &[
         Feed {
@@ -25,7 +25,7 @@ pub const A: Plan = Plan {
 };
 
 // One lane that one feed keeps busy.
-const BUSY: Plan = Plan {
+const BUSY: Plan<'static> = Plan {
     lanes: 1,
     feeds: &[Feed {
         cost: 1,
@@ -34,13 +34,13 @@ const BUSY: Plan = Plan {
 };
 
 // One lane and no feeds.
-const EMPTY: Plan = Plan {
+const EMPTY: Plan<'static> = Plan {
     lanes: 1,
     feeds: &[],
 };
 
 // One lane that two feeds keep busy.
-const HALVES: Plan = Plan {
+const HALVES: Plan<'static> = Plan {
     lanes: 1,
     feeds: &[
         Feed {
@@ -55,7 +55,7 @@ const HALVES: Plan = Plan {
 };
 
 // One lane and a feed of a long spacing.
-const LONG: Plan = Plan {
+const LONG: Plan<'static> = Plan {
     lanes: 1,
     feeds: &[Feed {
         cost: 1,
@@ -64,13 +64,13 @@ const LONG: Plan = Plan {
 };
 
 // More lanes than a roster can have.
-const WIDE: Plan = Plan {
+const WIDE: Plan<'static> = Plan {
     lanes: 9,
     feeds: &[],
 };
 
 /// The cases. The answer of each is right, and no other answer is.
-pub fn cases() -> [Case<Question>; 17]
+pub fn cases() -> [Case<Question<'static>>; 17]
     ensures { RightTable Right result }
 {
     [
