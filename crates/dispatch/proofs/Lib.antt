@@ -1,3 +1,4 @@
 pub mod Points
 pub mod Steps
 pub mod Timely
+pub mod Trace

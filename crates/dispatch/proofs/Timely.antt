@@ -1,5 +1,5 @@
 -- Every run is on time: the machine of crates/machine gives a run that tells the same, and that one is on time.
-use Rattle.std.proofs.Common.{◌≡◌, ℕ, zero, suc, ◌+◌, cond, eqb, List, [], ◌∷◌, sym, refl, ap, ◌∙◌, subst}
+use Rattle.std.proofs.Common.{◌≡◌, ℕ, zero, suc, ◌+◌, ◌<◌, ◌≤◌, cond, eqb, List, [], ◌∷◌, length, get_or, sym, refl, ap, ◌∙◌, subst, ap₂, arith}
 use Rattle.lateness.specs.Sums.{only}
 use Rattle.machine.specs.Machine.{Opened}
 use Rattle.machine.specs.Run as machine_run
@@ -9,7 +9,7 @@ use Rattle.machine.proofs.Trace.{allowed_from_none}
 use Rattle.machine.proofs.Timely as machine_timely
 use Rattle.dispatch.specs.Machine.{State, opening, release, advance}
 use Rattle.dispatch.specs.Run.{Event, released, stepped, refused, clock_of, cards_of, drawn_of}
-use Rattle.dispatch.specs.Law.{Gives, FewPicks, Timely, RunsOnTime}
+use Rattle.dispatch.specs.Law.{Gives, card, latest, OnTime, FewPicks, Timely, RunsOnTime}
 use Rattle.dispatch.proofs.Points.{pointed_state, opening_pointed, release_refusal_pointed, release_pointed}
 use Rattle.dispatch.proofs.Steps.{picks_pointed, advance_pointed}
 
@@ -59,11 +59,29 @@ few_pointed o (released n c ∷ es) few = few_pointed o es few
 few_pointed o (stepped ps ∷ es) few = (few.0, few_pointed o es few.1)
 few_pointed o (refused ∷ es) few = few_pointed o es few
 
+-- a card is the same, and so is its latest tick
+card_pointed : (lanes : ℕ) (es : List Event) (k j : ℕ) → machine_law.card (pointed_run lanes es) k j ≡ card es k j
+card_pointed lanes es k j = ap (λ cs. get_or cs j record { release = 0; cost = 0 }) (cards_pointed lanes es (k + 1) 0)
+
+latest_pointed : (o : Opened) (x : ℕ) (es : List Event) (k j : ℕ) → machine_law.latest o x (pointed_run o.lanes es) k j ≡ latest o x es k j
+latest_pointed o x es k j = omega (arith, ap (λ c. c.release) (card_pointed o.lanes es k j))
+
+-- so a run here is on time where that one is
+on_time_pointed : (o : Opened) (x : ℕ) (es : List Event) → machine_law.OnTime o x (pointed_run o.lanes es) → OnTime o x es
+on_time_pointed o x es on_time k j inside is_card by_clock i earlier =
+    let seen = pointed_run o.lanes es in
+    let same = latest_pointed o x es k j in
+    let listed : j < length (machine_run.cards_of (k + 1) 0 seen) = omega (arith, ap length (cards_pointed o.lanes es (k + 1) 0)) in
+    let in_time : machine_law.latest o x seen k j ≤ machine_run.clock_of seen = omega (arith, same, clock_pointed o.lanes es) in
+    let done = on_time k j inside listed in_time i (omega arith) in
+    let drawn = ap₂ (λ (c : Accepted) t. machine_run.drawn_of (k + 1) c.release t seen) (card_pointed o.lanes es k i) same ∙ drawn_pointed o.lanes es (k + 1) (card es k i).release (latest o x es k j) in
+    omega (arith, done, drawn, ap (λ c. c.cost) (card_pointed o.lanes es k i))
+
 -- so the runs here are timely under x where those of that machine are
 pub timely_pointed : (o : Opened) (x : ℕ) → machine_law.Timely o x → Timely o x
 timely_pointed o x timely es gives =
     let got = timely (pointed_run o.lanes es) (subst (λ t. machine_law.Gives o t (pointed_run o.lanes es)) (opening_pointed o) (gives_pointed o (opening o) es gives)) in
-    (simp (cards_pointed o.lanes es, clock_pointed o.lanes es, drawn_pointed o.lanes es) at got.0, few_pointed o es got.1)
+    (on_time_pointed o x es got.0, few_pointed o es got.1)
 
 -- every run is timely under the margin, since those of that machine are
 pub runs_on_time_lem : RunsOnTime
