@@ -1,4 +1,4 @@
-use Rattle.std.proofs.Common.{◌≡◌, ◌∷◌, [], false, eqb, length, sym, ap, ◌∙◌, arith, length-append}
+use Rattle.std.proofs.Common.{◌≡◌, ◌∷◌, [], false, eqb, length, sym, ap, ◌∙◌, arith, rules, length-append}
 use Rattle.std.specs.List.{list_all}
 use Rattle.std.proofs.lemmas.Bool.{ne_eqb, le-leb, lt-ltb}
 use Rattle.few.specs.Listed.{listed}
@@ -29,4 +29,4 @@ returns c =
     let some = le-leb 1 c.args.cost (omega arith) in
     let most = le-leb c.args.cost 60000 (omega arith) in
     let draws = (released_busy s.stage).1 in
-    simp (fits, some, most, pushed, c.after-self.ensures, draws)
+    search (rules, fits, some, most, pushed, c.after-self.ensures, draws)
