@@ -30,4 +30,4 @@ returns c =
     let l = c.args.hyperperiod in
     let value : c.sum.result ≡ weights l (feeds s) = search (rules, chains) in
     let each = sum_by_le (weight l) l (feeds s) (All-weaker _ _ (weight_at_most l) (feeds s) (each_rules s)) in
-    record { value = value; bound = omega (arith, value, each, mul-le-mul (few_feeds s) c.requires) }
+    record { value = omega (arith, value, each); bound = omega (arith, value, each, mul-le-mul (few_feeds s) c.requires) }
